@@ -1,0 +1,51 @@
+-- Elements computed. Assumes nothing.
+use mathlib.Core.Path.{_≡_, refl}
+use mathlib.Core.List.{List, [], _∷_, _++_, map}
+use mathlib.Core.Option.{Option, some, none}
+use Prim.Native.Nat.{ℕ}
+use lib.ListN.{length, replicate, drop}
+use Rattle.octets.specs.Pick.{pick}
+use Rattle.octets.specs.Bytes.{le, leValue}
+use Rattle.octets.specs.Place.{area}
+use Rattle.octets.specs.Compare.{same}
+use Rattle.decimal.specs.Integer.{patternOf, signedOf, negativeOf, unsignedOf, positiveOf, digitsAfter}
+use Rattle.decimal.specs.Text.{textOf, naturalText, digitsOf}
+use Rattle.listpack.specs.Width.{fits, narrow, extend, halfOf}
+use Rattle.listpack.specs.Element.{element, encodeItem, itemOf, integerBody, textHead, backLength}
+use Rattle.listpack.specs.Listpack.{listpack, header, elements}
+use Rattle.listpack.specs.Read.{parse, Parsed, readElement, bodyAt, wideAt, strict, backAt, parseMany, parseListpack}
+
+pub record Row : Type 0 where
+  pub string : List ℕ
+  pub bytes : List ℕ
+
+abbrev row : List ℕ → List ℕ → Row
+row s b = record { string = s; bytes = b }
+
+table : List Row
+table =
+    row (48 ∷ []) (0x00 ∷ 0x01 ∷ [])
+    ∷ row [] (0x80 ∷ 0x01 ∷ [])
+    ∷ row (49 ∷ 50 ∷ 55 ∷ []) (0x7F ∷ 0x01 ∷ [])
+    ∷ row (49 ∷ 50 ∷ 56 ∷ []) (0xC0 ∷ 0x80 ∷ 0x02 ∷ [])
+    ∷ row (45 ∷ 49 ∷ []) (0xDF ∷ 0xFF ∷ 0x02 ∷ [])
+    ∷ row (45 ∷ 52 ∷ 48 ∷ 57 ∷ 54 ∷ []) (0xD0 ∷ 0x00 ∷ 0x02 ∷ [])
+    ∷ row (52 ∷ 48 ∷ 57 ∷ 53 ∷ []) (0xCF ∷ 0xFF ∷ 0x02 ∷ [])
+    ∷ row (52 ∷ 48 ∷ 57 ∷ 54 ∷ []) (0xF1 ∷ 0x00 ∷ 0x10 ∷ 0x03 ∷ [])
+    ∷ row (45 ∷ 52 ∷ 48 ∷ 57 ∷ 55 ∷ []) (0xF1 ∷ 0xFF ∷ 0xEF ∷ 0x03 ∷ [])
+    ∷ row (51 ∷ 50 ∷ 55 ∷ 54 ∷ 56 ∷ []) (0xF2 ∷ 0x00 ∷ 0x80 ∷ 0x00 ∷ 0x04 ∷ [])
+    ∷ row (56 ∷ 51 ∷ 56 ∷ 56 ∷ 54 ∷ 48 ∷ 56 ∷ []) (0xF3 ∷ 0x00 ∷ 0x00 ∷ 0x80 ∷ 0x00 ∷ 0x05 ∷ [])
+    ∷ row (48 ∷ 48 ∷ 55 ∷ []) (0x83 ∷ 0x30 ∷ 0x30 ∷ 0x37 ∷ 0x04 ∷ [])
+    ∷ row (45 ∷ 48 ∷ []) (0x82 ∷ 0x2D ∷ 0x30 ∷ 0x03 ∷ [])
+    ∷ []
+
+written : map (λ (r : Row). element (r .string)) table ≡ map (λ (r : Row). r .bytes) table
+unfolding table element encodeItem itemOf integerBody textHead backLength fits narrow le patternOf signedOf negativeOf unsignedOf positiveOf digitsAfter same
+written = refl
+
+abbrev found : Row → Option Parsed
+found r = some (record { string = r .string; size = length (r .bytes) })
+
+read : map (λ (r : Row). parse (r .bytes ++ (7 ∷ []))) table ≡ map found table
+unfolding table parse readElement bodyAt wideAt strict backAt extend integerBody textHead backLength fits narrow le leValue area patternOf signedOf negativeOf unsignedOf positiveOf digitsAfter same textOf naturalText digitsOf
+read = refl

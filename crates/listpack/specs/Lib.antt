@@ -1,0 +1,5 @@
+-- Read in this order.
+pub mod Width
+pub mod Element
+pub mod Listpack
+pub mod Read
