@@ -1,0 +1,4 @@
+-- Read in this order.
+pub mod Entries
+pub mod Operation
+pub mod Shape
