@@ -24,11 +24,16 @@ orderOf [] (y ∷ ys) = Less
 orderOf (x ∷ xs) [] = Greater
 orderOf (x ∷ xs) (y ∷ ys) = pick (ltb x y) Less (pick (ltb y x) Greater (orderOf xs ys))
 
--- is the order Less; is it Less or Equal
+-- is the order Less, Equal, one of these two
 abbrev pub isLess : Order → Bool
 isLess Less = true
 isLess Equal = false
 isLess Greater = false
+
+abbrev pub isEqual : Order → Bool
+isEqual Less = false
+isEqual Equal = true
+isEqual Greater = false
 
 abbrev pub isAtMost : Order → Bool
 isAtMost Less = true
