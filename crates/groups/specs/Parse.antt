@@ -5,11 +5,11 @@ use mathlib.Core.List.{List, [], _∷_}
 use mathlib.Core.Option.{Option, some, none}
 use Prim.Native.Nat.{ℕ, zero, suc, _+_, _-_, _*_}
 use lib.Dec.{leb, ltb, eqb}
-use lib.ListN.{length, take, drop, getD}
+use lib.ListN.{length, drop, getD}
 use Rattle.octets.specs.Pick.{pick, both}
 use Rattle.octets.specs.Maybe.{_>>=_, _>>_, need}
 use Rattle.octets.specs.Bytes.{leValue}
-use Rattle.octets.specs.Place.{area}
+use Rattle.octets.specs.Place.{area, Taken, takeBytes}
 use Rattle.octets.specs.Compare.{allZero}
 use Rattle.id.specs.Bytes.{idFrom}
 use Rattle.groups.specs.Group.{Pending, Group, longestName, mostConsumers, mostPending, isGroup}
@@ -64,16 +64,6 @@ parseRegion s = do
   let g : Group = record { name = name; delivered = idFrom (area deliveredAt 16 s); consumers = consumers; pending = pending } in do
     need (isGroup g)
     some g
-
--- bytes taken from the front, and those after them
-pub record Taken : Type 0 where
-  pub bytes : List ℕ
-  pub rest : List ℕ
-
-unfoldable pub takeBytes : ℕ → List ℕ → Option Taken
-takeBytes n s = do
-  need (leb n (length s))
-  some (record { bytes = take n s; rest = drop n s })
 
 -- a length of one byte, and so many bytes
 unfoldable pub takeName : List ℕ → Option Taken

@@ -5,8 +5,11 @@
 --
 -- Assumes nothing.
 use mathlib.Core.List.{List, [], _∷_, _++_}
+use mathlib.Core.Option.{Option, some}
 use Prim.Native.Nat.{ℕ, _+_, _-_, max}
+use lib.Dec.{leb}
 use lib.ListN.{length, take, drop}
+use Rattle.octets.specs.Maybe.{_>>_, need}
 use Rattle.octets.specs.Bytes.{zeros}
 
 -- the n bytes from at on
@@ -32,3 +35,13 @@ spliced s used at gone new =
     ++ (area (at + gone) (used - (at + gone)) s
     ++ (zeros (used - splicedEnd used at gone new)
     ++ drop (max used (splicedEnd used at gone new)) s)))
+
+-- bytes taken from the front, and those after them
+pub record Taken : Type 0 where
+  pub bytes : List ℕ
+  pub rest : List ℕ
+
+unfoldable pub takeBytes : ℕ → List ℕ → Option Taken
+takeBytes n s = do
+  need (leb n (length s))
+  some (record { bytes = take n s; rest = drop n s })

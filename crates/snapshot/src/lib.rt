@@ -1,0 +1,1 @@
+// Save and load. What they write and accept is said in specs/.
