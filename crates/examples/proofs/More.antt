@@ -1,0 +1,195 @@
+-- More examples computed: nodes, a snapshot with a group, a group's region, an image and a run of commands. Assumes nothing.
+use mathlib.Core.Bool.{Bool, true, false}
+use mathlib.Core.Path.{_≡_, refl}
+use mathlib.Core.List.{List, [], _∷_, _++_, map}
+use mathlib.Core.Option.{Option, some, none}
+use Prim.Native.Nat.{ℕ, zero, suc, _+_}
+use lib.ListN.{length, replicate}
+use Rattle.octets.specs.Bytes.{zeros}
+use Rattle.id.specs.Id.{idOf, least}
+use Rattle.index.specs.Entries as Index
+use Rattle.node.specs.Message.{Entry, live}
+use Rattle.groups.specs.Group.{Group, Pending}
+use Rattle.stream.specs.Ledger.{Ledger}
+use Rattle.stream.specs.Command as Command
+use Rattle.snapshot.specs.Command.{Command, onStream, save, load, answersAll}
+use Rattle.examples.specs.Case.{Case, string, listpack, node, snapshot, bytesOf, readIn, Row, row, message}
+use Rattle.octets.specs.Bytes.{le, leValue, be, beFrom, beValue}
+use Rattle.octets.specs.Compare.{allZero, same, orderOf}
+use Rattle.octets.specs.Place.{area, put, spliced, takeBytes}
+use Rattle.id.specs.Bytes.{idBytes, idFrom}
+use Rattle.id.specs.Difference.{differenceOf, rebuiltOf}
+use Rattle.id.specs.Id.{idOrder, followingOf}
+use Rattle.decimal.specs.Integer.{digitsAfter, positiveOf, unsignedOf, negativeOf, signedOf, patternOf}
+use Rattle.decimal.specs.Text.{digitsOf, naturalText, textOf}
+use Rattle.listpack.specs.Element.{itemOf, integerBody, textHead, backLength, encodeItem, element, elementSize}
+use Rattle.listpack.specs.Listpack as Listpack
+use Rattle.listpack.specs.Read.{wideAt, bodyAt, backAt, strict, readElement, parse, parseMany, parseListpack}
+use Rattle.listpack.specs.Width.{fits, narrow, extend}
+use Rattle.node.specs.Bytes.{masterStrings, pairStrings, entryStrings, entriesStrings, nodeStrings, nodeBytes, nodeSize, slotOf}
+use Rattle.node.specs.Message.{areStrings, arePairs, isMessage, sameStrings, liveIn, liveCount, deletedCount}
+use Rattle.node.specs.Parse.{readNumber, readExactly, readStrings, readValues, readPairs, readEntry, readEntries, parseStrings, parseNode, parseSlot}
+use Rattle.node.specs.Rules.{risingFrom, areMessages, isNode}
+use Rattle.node.specs.Slip.{slipPairs, slip, cutString, parsePairs, parseSlip}
+use Rattle.node.specs.Step as NodeStep
+use Rattle.groups.specs.Area.{areGroups, isGroups, regions, areaBytes, parseRegions, parseArea}
+use Rattle.groups.specs.Bytes.{placeOf, pendingBytes, allPending, allNames, bodyBytes, allNameFields, regionBytes}
+use Rattle.groups.specs.Group.{areNames, namesAbove, risingNames, isAmong, pendingAbove, pendingUpTo, isPending, arePending, isGroup}
+use Rattle.groups.specs.Parse.{parseNameField, parseNameFields, parsePending, parseAllPending, parseRegion, takeName, takeNames, parseBody}
+use Rattle.groups.specs.Step as Groups
+use Rattle.stream.specs.Cut as Cut
+use Rattle.stream.specs.Image.{nodeOf, nodesOf, freeZero, imageFrom}
+use Rattle.stream.specs.Ledger.{messagesAbove, isLedger}
+use Rattle.stream.specs.LedgerStep.{onSetUp, addAs, clockId, withoutMessage, onTrim, onCreate, lacksConsumer, firstAfter, drops}
+use Rattle.stream.specs.Run.{run, answers}
+use Rattle.stream.specs.Step.{step}
+use Rattle.snapshot.specs.Bytes.{partsOf, contents, bodies, fileOf, snapshotOf}
+use Rattle.snapshot.specs.Command.{saveReply, loads}
+use Rattle.snapshot.specs.Parse.{takeParts, parseFile, readNode, readParts, parseSnapshot}
+
+abbrev a : List ℕ
+a = 97 ∷ []
+
+abbrev b : List ℕ
+b = 98 ∷ []
+
+abbrev one : List ℕ
+one = 49 ∷ []
+
+-- 5-0 with a=1, then 6-0 with b empty: 43 bytes, 17 elements
+abbrev second : List Entry
+second = live (message 5 0 a one) ∷ live (message 6 0 b []) ∷ []
+
+-- 6-0 under the key 5-9 stores 1 and −9
+abbrev backwards : List Entry
+backwards = live (message 5 9 a one) ∷ live (message 6 0 a one) ∷ []
+
+-- n messages from the ID 1-seq on
+pub series : ℕ → ℕ → List Entry
+series zero seq = []
+series (suc n) seq = live (message 1 seq a one) ∷ series n (seq + 1)
+
+-- 130 messages, the oldest n of them deleted: from 128 on the deleted count takes a byte more
+pub aged : ℕ → List Entry
+unfolding series NodeStep.markOldest
+aged n = NodeStep.markOldest n (series 130 0)
+
+-- the group g: 5-0 pending for the consumer c since 7
+abbrev group : Group
+group =
+    record {
+      name = 103 ∷ [];
+      delivered = idOf 5 0;
+      consumers = (99 ∷ []) ∷ [];
+      pending = record { id = idOf 5 0; consumer = 99 ∷ []; time = 7; count = 1 } ∷ []
+    }
+
+abbrev ledger : Ledger
+ledger = record { messages = message 5 0 a one ∷ []; last = idOf 5 0; groups = group ∷ [] }
+
+pub table : List Row
+table =
+    row (node second) (0x2B ∷ 0x00 ∷ 0x00 ∷ 0x00 ∷ 0x11 ∷ 0x00 ∷ 0x02 ∷ 0x01 ∷ 0x00 ∷ 0x01 ∷ 0x01 ∷ 0x01 ∷ 0x81 ∷ 0x61 ∷ 0x02 ∷ 0x00 ∷ 0x01 ∷ 0x02 ∷ 0x01 ∷ 0x00 ∷ 0x01 ∷ 0x00 ∷ 0x01 ∷ 0x01 ∷ 0x01 ∷ 0x04 ∷ 0x01 ∷ 0x00 ∷ 0x01 ∷ 0x01 ∷ 0x01 ∷ 0x00 ∷ 0x01 ∷ 0x01 ∷ 0x01 ∷ 0x81 ∷ 0x62 ∷ 0x02 ∷ 0x80 ∷ 0x01 ∷ 0x06 ∷ 0x01 ∷ 0xFF ∷ [])
+    ∷ row (node backwards) (0x27 ∷ 0x00 ∷ 0x00 ∷ 0x00 ∷ 0x0F ∷ 0x00 ∷ 0x02 ∷ 0x01 ∷ 0x00 ∷ 0x01 ∷ 0x01 ∷ 0x01 ∷ 0x81 ∷ 0x61 ∷ 0x02 ∷ 0x00 ∷ 0x01 ∷ 0x02 ∷ 0x01 ∷ 0x00 ∷ 0x01 ∷ 0x00 ∷ 0x01 ∷ 0x01 ∷ 0x01 ∷ 0x04 ∷ 0x01 ∷ 0x02 ∷ 0x01 ∷ 0x01 ∷ 0x01 ∷ 0xDF ∷ 0xF7 ∷ 0x02 ∷ 0x01 ∷ 0x01 ∷ 0x04 ∷ 0x01 ∷ 0xFF ∷ [])
+    ∷ row (snapshot ledger) (0x01 ∷ 0x03 ∷ 0x00 ∷ 0x01 ∷ 0x1E ∷ 0x00 ∷ 0x00 ∷ 0x00 ∷ 0x10 ∷ 0x00 ∷ 0x00 ∷ 0x00 ∷ 0x02 ∷ 0x2E ∷ 0x00 ∷ 0x00 ∷ 0x00 ∷ 0x2C ∷ 0x00 ∷ 0x00 ∷ 0x00 ∷ 0x03 ∷ 0x5A ∷ 0x00 ∷ 0x00 ∷ 0x00 ∷ 0x32 ∷ 0x00 ∷ 0x00 ∷ 0x00 ∷ 0x00 ∷ 0x00 ∷ 0x00 ∷ 0x00 ∷ 0x00 ∷ 0x00 ∷ 0x00 ∷ 0x05 ∷ 0x00 ∷ 0x00 ∷ 0x00 ∷ 0x00 ∷ 0x00 ∷ 0x00 ∷ 0x00 ∷ 0x00 ∷ 0x00 ∷ 0x00 ∷ 0x00 ∷ 0x00 ∷ 0x00 ∷ 0x00 ∷ 0x00 ∷ 0x05 ∷ 0x00 ∷ 0x00 ∷ 0x00 ∷ 0x00 ∷ 0x00 ∷ 0x00 ∷ 0x00 ∷ 0x00 ∷ 0x1C ∷ 0x00 ∷ 0x00 ∷ 0x00 ∷ 0x0A ∷ 0x00 ∷ 0x01 ∷ 0x01 ∷ 0x00 ∷ 0x01 ∷ 0x01 ∷ 0x01 ∷ 0x81 ∷ 0x61 ∷ 0x02 ∷ 0x00 ∷ 0x01 ∷ 0x02 ∷ 0x01 ∷ 0x00 ∷ 0x01 ∷ 0x00 ∷ 0x01 ∷ 0x01 ∷ 0x01 ∷ 0x04 ∷ 0x01 ∷ 0xFF ∷ 0x01 ∷ 0x67 ∷ 0x00 ∷ 0x00 ∷ 0x00 ∷ 0x00 ∷ 0x00 ∷ 0x00 ∷ 0x00 ∷ 0x05 ∷ 0x00 ∷ 0x00 ∷ 0x00 ∷ 0x00 ∷ 0x00 ∷ 0x00 ∷ 0x00 ∷ 0x00 ∷ 0x01 ∷ 0x01 ∷ 0x63 ∷ 0x01 ∷ 0x00 ∷ 0x00 ∷ 0x00 ∷ 0x00 ∷ 0x00 ∷ 0x00 ∷ 0x00 ∷ 0x00 ∷ 0x05 ∷ 0x00 ∷ 0x00 ∷ 0x00 ∷ 0x00 ∷ 0x00 ∷ 0x00 ∷ 0x00 ∷ 0x00 ∷ 0x00 ∷ 0x07 ∷ 0x00 ∷ 0x00 ∷ 0x00 ∷ 0x00 ∷ 0x00 ∷ 0x00 ∷ 0x00 ∷ 0x01 ∷ 0x00 ∷ [])
+    ∷ []
+
+pub written : map (λ (r : Row). bytesOf (r .what)) table ≡ map (λ (r : Row). r .bytes) table
+unfolding table le leValue be beFrom beValue allZero same orderOf area put spliced takeBytes idBytes idFrom differenceOf rebuiltOf idOrder followingOf digitsAfter positiveOf unsignedOf negativeOf signedOf patternOf digitsOf naturalText textOf itemOf integerBody textHead backLength encodeItem element elementSize Listpack.elements Listpack.header Listpack.listpack wideAt bodyAt backAt strict readElement parse parseMany parseListpack fits narrow extend masterStrings pairStrings entryStrings entriesStrings nodeStrings nodeBytes nodeSize slotOf areStrings arePairs isMessage sameStrings liveIn liveCount deletedCount readNumber readExactly readStrings readValues readPairs readEntry readEntries parseStrings parseNode parseSlot risingFrom areMessages isNode slipPairs slip cutString parsePairs parseSlip NodeStep.append NodeStep.takes NodeStep.fitsAlone NodeStep.markDeleted NodeStep.markOldest NodeStep.findMessage NodeStep.firstFrom NodeStep.valueOf areGroups isGroups regions areaBytes parseRegions parseArea placeOf pendingBytes allPending allNames bodyBytes allNameFields regionBytes areNames namesAbove risingNames isAmong pendingAbove pendingUpTo isPending arePending isGroup parseNameField parseNameFields parsePending parseAllPending parseRegion takeName takeNames parseBody Groups.withName Groups.withoutName Groups.findPending Groups.putPending Groups.withoutPending Groups.pendingOf Groups.pendingOfOthers Groups.firstAbove Groups.deliver Groups.acknowledge Groups.claim Groups.nextPending Groups.dropConsumer Groups.findGroup Groups.putGroup Groups.withoutGroup Cut.entriesOf Cut.isTaken Cut.areNodes Cut.allUpTo Cut.isModel Cut.freeFrom Cut.lowestFree Cut.highestTakes Cut.addTo Cut.addMessage Cut.lacksSlot Cut.freed Cut.markInNodes Cut.deleteMessage Cut.markOldestInNodes Cut.deleteOldest Cut.addAll Cut.freshCut nodeOf nodesOf freeZero imageFrom messagesAbove isLedger onSetUp addAs clockId withoutMessage onTrim onCreate lacksConsumer firstAfter drops run answers step partsOf contents bodies fileOf snapshotOf saveReply loads takeParts parseFile readNode readParts parseSnapshot
+written = refl
+
+pub elements17 : length (nodeStrings second) ≡ 17
+unfolding le leValue be beFrom beValue allZero same orderOf area put spliced takeBytes idBytes idFrom differenceOf rebuiltOf idOrder followingOf digitsAfter positiveOf unsignedOf negativeOf signedOf patternOf digitsOf naturalText textOf itemOf integerBody textHead backLength encodeItem element elementSize Listpack.elements Listpack.header Listpack.listpack wideAt bodyAt backAt strict readElement parse parseMany parseListpack fits narrow extend masterStrings pairStrings entryStrings entriesStrings nodeStrings nodeBytes nodeSize slotOf areStrings arePairs isMessage sameStrings liveIn liveCount deletedCount readNumber readExactly readStrings readValues readPairs readEntry readEntries parseStrings parseNode parseSlot risingFrom areMessages isNode slipPairs slip cutString parsePairs parseSlip NodeStep.append NodeStep.takes NodeStep.fitsAlone NodeStep.markDeleted NodeStep.markOldest NodeStep.findMessage NodeStep.firstFrom NodeStep.valueOf areGroups isGroups regions areaBytes parseRegions parseArea placeOf pendingBytes allPending allNames bodyBytes allNameFields regionBytes areNames namesAbove risingNames isAmong pendingAbove pendingUpTo isPending arePending isGroup parseNameField parseNameFields parsePending parseAllPending parseRegion takeName takeNames parseBody Groups.withName Groups.withoutName Groups.findPending Groups.putPending Groups.withoutPending Groups.pendingOf Groups.pendingOfOthers Groups.firstAbove Groups.deliver Groups.acknowledge Groups.claim Groups.nextPending Groups.dropConsumer Groups.findGroup Groups.putGroup Groups.withoutGroup Cut.entriesOf Cut.isTaken Cut.areNodes Cut.allUpTo Cut.isModel Cut.freeFrom Cut.lowestFree Cut.highestTakes Cut.addTo Cut.addMessage Cut.lacksSlot Cut.freed Cut.markInNodes Cut.deleteMessage Cut.markOldestInNodes Cut.deleteOldest Cut.addAll Cut.freshCut nodeOf nodesOf freeZero imageFrom messagesAbove isLedger onSetUp addAs clockId withoutMessage onTrim onCreate lacksConsumer firstAfter drops run answers step partsOf contents bodies fileOf snapshotOf saveReply loads takeParts parseFile readNode readParts parseSnapshot
+elements17 = refl
+
+pub sizes : map nodeSize (second ∷ aged 127 ∷ aged 128 ∷ []) ≡ 43 ∷ 1320 ∷ 1321 ∷ []
+unfolding aged series le leValue be beFrom beValue allZero same orderOf area put spliced takeBytes idBytes idFrom differenceOf rebuiltOf idOrder followingOf digitsAfter positiveOf unsignedOf negativeOf signedOf patternOf digitsOf naturalText textOf itemOf integerBody textHead backLength encodeItem element elementSize Listpack.elements Listpack.header Listpack.listpack wideAt bodyAt backAt strict readElement parse parseMany parseListpack fits narrow extend masterStrings pairStrings entryStrings entriesStrings nodeStrings nodeBytes nodeSize slotOf areStrings arePairs isMessage sameStrings liveIn liveCount deletedCount readNumber readExactly readStrings readValues readPairs readEntry readEntries parseStrings parseNode parseSlot risingFrom areMessages isNode slipPairs slip cutString parsePairs parseSlip NodeStep.append NodeStep.takes NodeStep.fitsAlone NodeStep.markDeleted NodeStep.markOldest NodeStep.findMessage NodeStep.firstFrom NodeStep.valueOf areGroups isGroups regions areaBytes parseRegions parseArea placeOf pendingBytes allPending allNames bodyBytes allNameFields regionBytes areNames namesAbove risingNames isAmong pendingAbove pendingUpTo isPending arePending isGroup parseNameField parseNameFields parsePending parseAllPending parseRegion takeName takeNames parseBody Groups.withName Groups.withoutName Groups.findPending Groups.putPending Groups.withoutPending Groups.pendingOf Groups.pendingOfOthers Groups.firstAbove Groups.deliver Groups.acknowledge Groups.claim Groups.nextPending Groups.dropConsumer Groups.findGroup Groups.putGroup Groups.withoutGroup Cut.entriesOf Cut.isTaken Cut.areNodes Cut.allUpTo Cut.isModel Cut.freeFrom Cut.lowestFree Cut.highestTakes Cut.addTo Cut.addMessage Cut.lacksSlot Cut.freed Cut.markInNodes Cut.deleteMessage Cut.markOldestInNodes Cut.deleteOldest Cut.addAll Cut.freshCut nodeOf nodesOf freeZero imageFrom messagesAbove isLedger onSetUp addAs clockId withoutMessage onTrim onCreate lacksConsumer firstAfter drops run answers step partsOf contents bodies fileOf snapshotOf saveReply loads takeParts parseFile readNode readParts parseSnapshot
+sizes = refl
+
+abbrev cases : List Case
+cases = node second ∷ node backwards ∷ node (aged 127) ∷ node (aged 128) ∷ snapshot ledger ∷ []
+
+pub readBack : map readIn cases ≡ map some cases
+unfolding aged series le leValue be beFrom beValue allZero same orderOf area put spliced takeBytes idBytes idFrom differenceOf rebuiltOf idOrder followingOf digitsAfter positiveOf unsignedOf negativeOf signedOf patternOf digitsOf naturalText textOf itemOf integerBody textHead backLength encodeItem element elementSize Listpack.elements Listpack.header Listpack.listpack wideAt bodyAt backAt strict readElement parse parseMany parseListpack fits narrow extend masterStrings pairStrings entryStrings entriesStrings nodeStrings nodeBytes nodeSize slotOf areStrings arePairs isMessage sameStrings liveIn liveCount deletedCount readNumber readExactly readStrings readValues readPairs readEntry readEntries parseStrings parseNode parseSlot risingFrom areMessages isNode slipPairs slip cutString parsePairs parseSlip NodeStep.append NodeStep.takes NodeStep.fitsAlone NodeStep.markDeleted NodeStep.markOldest NodeStep.findMessage NodeStep.firstFrom NodeStep.valueOf areGroups isGroups regions areaBytes parseRegions parseArea placeOf pendingBytes allPending allNames bodyBytes allNameFields regionBytes areNames namesAbove risingNames isAmong pendingAbove pendingUpTo isPending arePending isGroup parseNameField parseNameFields parsePending parseAllPending parseRegion takeName takeNames parseBody Groups.withName Groups.withoutName Groups.findPending Groups.putPending Groups.withoutPending Groups.pendingOf Groups.pendingOfOthers Groups.firstAbove Groups.deliver Groups.acknowledge Groups.claim Groups.nextPending Groups.dropConsumer Groups.findGroup Groups.putGroup Groups.withoutGroup Cut.entriesOf Cut.isTaken Cut.areNodes Cut.allUpTo Cut.isModel Cut.freeFrom Cut.lowestFree Cut.highestTakes Cut.addTo Cut.addMessage Cut.lacksSlot Cut.freed Cut.markInNodes Cut.deleteMessage Cut.markOldestInNodes Cut.deleteOldest Cut.addAll Cut.freshCut nodeOf nodesOf freeZero imageFrom messagesAbove isLedger onSetUp addAs clockId withoutMessage onTrim onCreate lacksConsumer firstAfter drops run answers step partsOf contents bodies fileOf snapshotOf saveReply loads takeParts parseFile readNode readParts parseSnapshot
+readBack = refl
+
+-- a region and a body give the group back
+pub region : (length (regionBytes group) ≡ 7220) × (parseRegion (regionBytes group) ≡ some group) × (parseBody (bodyBytes group) ≡ some group)
+unfolding le leValue be beFrom beValue allZero same orderOf area put spliced takeBytes idBytes idFrom differenceOf rebuiltOf idOrder followingOf digitsAfter positiveOf unsignedOf negativeOf signedOf patternOf digitsOf naturalText textOf itemOf integerBody textHead backLength encodeItem element elementSize Listpack.elements Listpack.header Listpack.listpack wideAt bodyAt backAt strict readElement parse parseMany parseListpack fits narrow extend masterStrings pairStrings entryStrings entriesStrings nodeStrings nodeBytes nodeSize slotOf areStrings arePairs isMessage sameStrings liveIn liveCount deletedCount readNumber readExactly readStrings readValues readPairs readEntry readEntries parseStrings parseNode parseSlot risingFrom areMessages isNode slipPairs slip cutString parsePairs parseSlip NodeStep.append NodeStep.takes NodeStep.fitsAlone NodeStep.markDeleted NodeStep.markOldest NodeStep.findMessage NodeStep.firstFrom NodeStep.valueOf areGroups isGroups regions areaBytes parseRegions parseArea placeOf pendingBytes allPending allNames bodyBytes allNameFields regionBytes areNames namesAbove risingNames isAmong pendingAbove pendingUpTo isPending arePending isGroup parseNameField parseNameFields parsePending parseAllPending parseRegion takeName takeNames parseBody Groups.withName Groups.withoutName Groups.findPending Groups.putPending Groups.withoutPending Groups.pendingOf Groups.pendingOfOthers Groups.firstAbove Groups.deliver Groups.acknowledge Groups.claim Groups.nextPending Groups.dropConsumer Groups.findGroup Groups.putGroup Groups.withoutGroup Cut.entriesOf Cut.isTaken Cut.areNodes Cut.allUpTo Cut.isModel Cut.freeFrom Cut.lowestFree Cut.highestTakes Cut.addTo Cut.addMessage Cut.lacksSlot Cut.freed Cut.markInNodes Cut.deleteMessage Cut.markOldestInNodes Cut.deleteOldest Cut.addAll Cut.freshCut nodeOf nodesOf freeZero imageFrom messagesAbove isLedger onSetUp addAs clockId withoutMessage onTrim onCreate lacksConsumer firstAfter drops run answers step partsOf contents bodies fileOf snapshotOf saveReply loads takeParts parseFile readNode readParts parseSnapshot
+region = (refl, refl, refl)
+
+pub area8 : parseArea (idOf 5 0) (areaBytes (group ∷ [])) ≡ some (group ∷ [])
+unfolding le leValue be beFrom beValue allZero same orderOf area put spliced takeBytes idBytes idFrom differenceOf rebuiltOf idOrder followingOf digitsAfter positiveOf unsignedOf negativeOf signedOf patternOf digitsOf naturalText textOf itemOf integerBody textHead backLength encodeItem element elementSize Listpack.elements Listpack.header Listpack.listpack wideAt bodyAt backAt strict readElement parse parseMany parseListpack fits narrow extend masterStrings pairStrings entryStrings entriesStrings nodeStrings nodeBytes nodeSize slotOf areStrings arePairs isMessage sameStrings liveIn liveCount deletedCount readNumber readExactly readStrings readValues readPairs readEntry readEntries parseStrings parseNode parseSlot risingFrom areMessages isNode slipPairs slip cutString parsePairs parseSlip NodeStep.append NodeStep.takes NodeStep.fitsAlone NodeStep.markDeleted NodeStep.markOldest NodeStep.findMessage NodeStep.firstFrom NodeStep.valueOf areGroups isGroups regions areaBytes parseRegions parseArea placeOf pendingBytes allPending allNames bodyBytes allNameFields regionBytes areNames namesAbove risingNames isAmong pendingAbove pendingUpTo isPending arePending isGroup parseNameField parseNameFields parsePending parseAllPending parseRegion takeName takeNames parseBody Groups.withName Groups.withoutName Groups.findPending Groups.putPending Groups.withoutPending Groups.pendingOf Groups.pendingOfOthers Groups.firstAbove Groups.deliver Groups.acknowledge Groups.claim Groups.nextPending Groups.dropConsumer Groups.findGroup Groups.putGroup Groups.withoutGroup Cut.entriesOf Cut.isTaken Cut.areNodes Cut.allUpTo Cut.isModel Cut.freeFrom Cut.lowestFree Cut.highestTakes Cut.addTo Cut.addMessage Cut.lacksSlot Cut.freed Cut.markInNodes Cut.deleteMessage Cut.markOldestInNodes Cut.deleteOldest Cut.addAll Cut.freshCut nodeOf nodesOf freeZero imageFrom messagesAbove isLedger onSetUp addAs clockId withoutMessage onTrim onCreate lacksConsumer firstAfter drops run answers step partsOf contents bodies fileOf snapshotOf saveReply loads takeParts parseFile readNode readParts parseSnapshot
+area8 = refl
+
+-- a store of two slots and a tail: the second slot holds the node
+pub image : imageFrom (zeros 4096 ++ (slotOf second ++ (9 ∷ []))) (idOf 6 0) (Index.entry (idBytes (idOf 5 0)) 1 ∷ []) (areaBytes (group ∷ []))
+    ≡ some (record { nodes = Cut.nodeAt 1 second ∷ []; last = idOf 6 0; groups = group ∷ [] })
+unfolding le leValue be beFrom beValue allZero same orderOf area put spliced takeBytes idBytes idFrom differenceOf rebuiltOf idOrder followingOf digitsAfter positiveOf unsignedOf negativeOf signedOf patternOf digitsOf naturalText textOf itemOf integerBody textHead backLength encodeItem element elementSize Listpack.elements Listpack.header Listpack.listpack wideAt bodyAt backAt strict readElement parse parseMany parseListpack fits narrow extend masterStrings pairStrings entryStrings entriesStrings nodeStrings nodeBytes nodeSize slotOf areStrings arePairs isMessage sameStrings liveIn liveCount deletedCount readNumber readExactly readStrings readValues readPairs readEntry readEntries parseStrings parseNode parseSlot risingFrom areMessages isNode slipPairs slip cutString parsePairs parseSlip NodeStep.append NodeStep.takes NodeStep.fitsAlone NodeStep.markDeleted NodeStep.markOldest NodeStep.findMessage NodeStep.firstFrom NodeStep.valueOf areGroups isGroups regions areaBytes parseRegions parseArea placeOf pendingBytes allPending allNames bodyBytes allNameFields regionBytes areNames namesAbove risingNames isAmong pendingAbove pendingUpTo isPending arePending isGroup parseNameField parseNameFields parsePending parseAllPending parseRegion takeName takeNames parseBody Groups.withName Groups.withoutName Groups.findPending Groups.putPending Groups.withoutPending Groups.pendingOf Groups.pendingOfOthers Groups.firstAbove Groups.deliver Groups.acknowledge Groups.claim Groups.nextPending Groups.dropConsumer Groups.findGroup Groups.putGroup Groups.withoutGroup Cut.entriesOf Cut.isTaken Cut.areNodes Cut.allUpTo Cut.isModel Cut.freeFrom Cut.lowestFree Cut.highestTakes Cut.addTo Cut.addMessage Cut.lacksSlot Cut.freed Cut.markInNodes Cut.deleteMessage Cut.markOldestInNodes Cut.deleteOldest Cut.addAll Cut.freshCut nodeOf nodesOf freeZero imageFrom messagesAbove isLedger onSetUp addAs clockId withoutMessage onTrim onCreate lacksConsumer firstAfter drops run answers step partsOf contents bodies fileOf snapshotOf saveReply loads takeParts parseFile readNode readParts parseSnapshot
+image = refl
+
+abbrev slipOf : List ℕ → List ℕ → List ℕ
+slipOf f v = slip (Rattle.node.specs.Message.pair f v ∷ [])
+
+abbrev g : List ℕ
+g = 103 ∷ []
+
+abbrev c : List ℕ
+c = 99 ∷ []
+
+abbrev d : List ℕ
+d = 100 ∷ []
+
+abbrev moved : Pending
+moved = record { id = idOf 5 0; consumer = d; time = 9; count = 2 }
+
+pub record Asked : Type 0 where
+  pub command : Command
+  pub answer : Command.Answer
+
+abbrev asked : Command.Command → Command.Answer → Asked
+asked x y = record { command = onStream x; answer = y }
+
+-- commands on a store of one slot, and what each answers
+pub asks : List Asked
+asks =
+    asked Command.setUp Command.done
+    ∷ asked (Command.add (idOf 0 0) (slipOf a one)) (Command.refused 4)
+    ∷ asked (Command.add (idOf 5 0) (slipOf a one)) (Command.given (idOf 5 0))
+    ∷ asked (Command.add (idOf 5 0) (slipOf a one)) (Command.refused 4)
+    ∷ asked (Command.add (idOf 6 0) (0 ∷ [])) (Command.refused 3)
+    ∷ asked (Command.addByClock 5 (slipOf b [])) (Command.given (idOf 5 1))
+    ∷ asked (Command.addByClock 7 (slipOf a (replicate 1000 120))) (Command.given (idOf 7 0))
+    ∷ asked (Command.next (idOf 5 1)) (Command.given (idOf 5 1))
+    ∷ asked (Command.next (idOf 8 0)) Command.nothing
+    ∷ asked (Command.read (idOf 5 0) 100) (Command.written (slipOf a one))
+    ∷ asked (Command.read (idOf 5 0) 6) (Command.refused 8)
+    ∷ asked (Command.read (idOf 5 2) 6) (Command.refused 14)
+    ∷ asked (Command.field (idOf 5 1) b 0) (Command.written [])
+    ∷ asked (Command.field (idOf 5 1) a 0) Command.absent
+    ∷ asked (Command.groupRead g c 7) (Command.refused 9)
+    ∷ asked (Command.createGroup g least) Command.done
+    ∷ asked (Command.createGroup g least) (Command.refused 10)
+    ∷ asked (Command.createGroup [] least) (Command.refused 3)
+    ∷ asked (Command.groupRead g c 7) (Command.given (idOf 5 0))
+    ∷ asked (Command.claim g d 3 (idOf 5 0) 9) Command.notMoved
+    ∷ asked (Command.claim g d 2 (idOf 5 0) 9) Command.moved
+    ∷ asked (Command.delete (idOf 5 0)) (Command.counted 1)
+    ∷ asked (Command.delete (idOf 5 0)) (Command.counted 0)
+    ∷ asked (Command.nextPending g d least) (Command.entry moved false)
+    ∷ asked (Command.nextPending g c least) Command.nothing
+    ∷ asked (Command.acknowledge g (idOf 5 1)) (Command.counted 0)
+    ∷ asked (Command.dropConsumer g d) (Command.counted 1)
+    ∷ asked (Command.destroyGroup g) Command.done
+    ∷ asked (Command.trim 1) (Command.counted 1)
+    ∷ asked (Command.trim 0) (Command.counted 1)
+    ∷ record { command = save 28; answer = Command.written (snapshotOf (record { messages = []; last = idOf 7 0; groups = [] })) }
+    ∷ record { command = save 27; answer = Command.refused 8 }
+    ∷ record { command = load (1 ∷ []); answer = Command.refused 16 }
+    ∷ record { command = load (snapshotOf ledger); answer = Command.done }
+    ∷ asked (Command.next least) (Command.given (idOf 5 0))
+    ∷ []
+
+pub answered : answersAll 1 (map (λ (x : Asked). x .command) asks) none ≡ map (λ (x : Asked). x .answer) asks
+unfolding asks le leValue be beFrom beValue allZero same orderOf area put spliced takeBytes idBytes idFrom differenceOf rebuiltOf idOrder followingOf digitsAfter positiveOf unsignedOf negativeOf signedOf patternOf digitsOf naturalText textOf itemOf integerBody textHead backLength encodeItem element elementSize Listpack.elements Listpack.header Listpack.listpack wideAt bodyAt backAt strict readElement parse parseMany parseListpack fits narrow extend masterStrings pairStrings entryStrings entriesStrings nodeStrings nodeBytes nodeSize slotOf areStrings arePairs isMessage sameStrings liveIn liveCount deletedCount readNumber readExactly readStrings readValues readPairs readEntry readEntries parseStrings parseNode parseSlot risingFrom areMessages isNode slipPairs slip cutString parsePairs parseSlip NodeStep.append NodeStep.takes NodeStep.fitsAlone NodeStep.markDeleted NodeStep.markOldest NodeStep.findMessage NodeStep.firstFrom NodeStep.valueOf areGroups isGroups regions areaBytes parseRegions parseArea placeOf pendingBytes allPending allNames bodyBytes allNameFields regionBytes areNames namesAbove risingNames isAmong pendingAbove pendingUpTo isPending arePending isGroup parseNameField parseNameFields parsePending parseAllPending parseRegion takeName takeNames parseBody Groups.withName Groups.withoutName Groups.findPending Groups.putPending Groups.withoutPending Groups.pendingOf Groups.pendingOfOthers Groups.firstAbove Groups.deliver Groups.acknowledge Groups.claim Groups.nextPending Groups.dropConsumer Groups.findGroup Groups.putGroup Groups.withoutGroup Cut.entriesOf Cut.isTaken Cut.areNodes Cut.allUpTo Cut.isModel Cut.freeFrom Cut.lowestFree Cut.highestTakes Cut.addTo Cut.addMessage Cut.lacksSlot Cut.freed Cut.markInNodes Cut.deleteMessage Cut.markOldestInNodes Cut.deleteOldest Cut.addAll Cut.freshCut nodeOf nodesOf freeZero imageFrom messagesAbove isLedger onSetUp addAs clockId withoutMessage onTrim onCreate lacksConsumer firstAfter drops run answers step partsOf contents bodies fileOf snapshotOf saveReply loads takeParts parseFile readNode readParts parseSnapshot
+answered = refl
