@@ -1,8 +1,24 @@
-// Byte slices: numbers at a place, copy, fill, compare, splice.
+// Byte slices: numbers at a place, copy, fill, move, splice, compare.
 // What each answers is said in specs/: Bytes, Place, Compare.
 
 ghost use mathlib.Core.Path.{_≡_};
 ghost use Prim.Native.Nat.{_<_};
+
+mod comparison;
+mod number;
+mod place;
+
+pub use comparison::all_zero_from;
+pub use comparison::compare;
+pub use comparison::equal;
+pub use number::read_be;
+pub use number::read_le;
+pub use number::write_be;
+pub use number::write_le;
+pub use place::copy_in;
+pub use place::move_within;
+pub use place::splice;
+pub use place::zero;
 
 // Which of two byte strings comes first.
 pub enum Order {
