@@ -29,18 +29,21 @@ positiveOf (b ∷ bs) = do
   need (both (leb 49 b) (leb b 57))
   digitsAfter (b - 48) bs
 
+-- a number that is in range, at most `most`
+abbrev pub upTo : ℕ → Option ℕ → Option ℕ
+upTo most o = do
+  n ← o
+  need (leb n most)
+  some n
+
 -- without a minus: at most 2^63 − 1
 unfoldable pub unsignedOf : List ℕ → Option ℕ
-unsignedOf s = do
-  n ← positiveOf s
-  need (leb n (2 ^ 63 - 1))
-  some n
+unsignedOf s = upTo (2 ^ 63 - 1) (positiveOf s)
 
 -- after a minus: at most 2^63
 unfoldable pub negativeOf : List ℕ → Option ℕ
 negativeOf s = do
-  n ← positiveOf s
-  need (leb n (2 ^ 63))
+  n ← upTo (2 ^ 63) (positiveOf s)
   some (2 ^ 64 - n)
 
 -- an optional minus; 45 is '-'

@@ -1,0 +1,7 @@
+-- Laws is what callers cite; the others are its topics.
+pub mod Laws
+pub mod Cases
+pub mod Natural
+pub mod Reading
+pub mod Writing
+pub mod Examples
