@@ -81,7 +81,7 @@ group =
       name = 103 ∷ [];
       delivered = idOf 5 0;
       consumers = (99 ∷ []) ∷ [];
-      pending = record { id = idOf 5 0; consumer = 99 ∷ []; time = 7; count = 1 } ∷ []
+      pending = record { id = idOf 5 0; consumer = 99 ∷ []; time = 7; count = 1 } ∷ [];
     }
 
 abbrev ledger : Ledger

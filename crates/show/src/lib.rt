@@ -1,0 +1,48 @@
+// Bytes and numbers written to standard output, for the programs whose output is compared.
+
+use libc::STDOUT_FILENO;
+
+// One digit of a hexadecimal number, in upper case.
+fn digit(n: u8) -> u8 {
+    let low = n % 16;
+    if low < 10 {
+        b'0' + low
+    } else {
+        b'A' + (low - 10)
+    }
+}
+
+fn byte(b: u8) {
+    let text = [digit(b / 16), digit(b)];
+    io::write_all(STDOUT_FILENO, &text);
+}
+
+// A label or a separator, as it is.
+pub fn text(s: &[u8]) {
+    io::write_all(STDOUT_FILENO, s);
+}
+
+// Two digits a byte, each after the separator.
+pub fn hex(s: &[u8], separator: &[u8]) {
+    let mut i = 0;
+    while i < s.len() {
+        text(separator);
+        byte(s[i]);
+        i += 1;
+    }
+}
+
+// A label, and a space and two digits for each byte, on a line.
+pub fn line(label: &[u8], s: &[u8]) {
+    text(label);
+    hex(s, b" ");
+    text(b"\n");
+}
+
+// A label, a space and a number, on a line.
+pub fn count(label: &[u8], n: u64) {
+    text(label);
+    text(b" ");
+    io::print_decimal(STDOUT_FILENO, n);
+    text(b"\n");
+}
