@@ -1,0 +1,86 @@
+//! The commands of 01 and their answers.
+
+use crate::id::Id;
+use crate::message::Name;
+use crate::refusal::Refusal;
+
+/// A command with its arguments. `room` is the length of the output.
+#[derive(Clone, Debug, PartialEq, Eq)]
+pub enum Command {
+    SetUp,
+    Add { id: Id, slip: Vec<u8> },
+    AddByClock { time: u64, slip: Vec<u8> },
+    Delete { id: Id },
+    Trim { keep: u64 },
+    Next { id: Id },
+    Read { id: Id, room: usize },
+    Field { id: Id, name: Vec<u8>, room: usize },
+    CreateGroup { group: Name, start: Id },
+    DestroyGroup { group: Name },
+    GroupRead { group: Name, consumer: Name, now: u64 },
+    Acknowledge { group: Name, id: Id },
+    Claim { group: Name, consumer: Name, least_idle: u64, id: Id, now: u64 },
+    NextPending { group: Name, consumer: Name, after: Id },
+    DropConsumer { group: Name, consumer: Name },
+    Save { room: usize },
+    Load { file: Vec<u8> },
+}
+
+#[derive(Clone, Debug, PartialEq, Eq)]
+pub enum Answer {
+    /// Set up, load, create group, destroy group.
+    Done,
+    /// Both adds, next, group read.
+    Id(Id),
+    /// Delete, trim, acknowledge, drop consumer.
+    Count(u64),
+    /// Read, field, save: what starts the output.
+    Written(Vec<u8>),
+    /// Claim.
+    Moved,
+    /// Next pending.
+    Pending {
+        id: Id,
+        time: u64,
+        count: u16,
+        lives: bool,
+    },
+    /// Next, next pending: there is none.
+    NoneFound,
+    /// Group read: nothing new.
+    NothingNew,
+    /// Field: the message lacks it.
+    Absent,
+    /// Claim: not moved.
+    NotMoved,
+    Refused(Refusal),
+}
+
+impl Answer {
+    /// What the C function returns.
+    pub fn code(&self) -> u32 {
+        match self {
+            Answer::NoneFound | Answer::NothingNew => 32,
+            Answer::Absent => 33,
+            Answer::NotMoved => 34,
+            Answer::Refused(number) => *number,
+            _ => 0,
+        }
+    }
+}
+
+#[cfg(test)]
+mod tests {
+    use super::*;
+
+    #[test]
+    fn codes() {
+        assert_eq!(Answer::Done.code(), 0);
+        assert_eq!(Answer::Count(0).code(), 0);
+        assert_eq!(Answer::NoneFound.code(), 32);
+        assert_eq!(Answer::NothingNew.code(), 32);
+        assert_eq!(Answer::Absent.code(), 33);
+        assert_eq!(Answer::NotMoved.code(), 34);
+        assert_eq!(Answer::Refused(7).code(), 7);
+    }
+}
