@@ -1,14 +1,15 @@
 -- What an area reads: its length, areas joined, of appends, of areas and of puts. Assumes nothing.
 use mathlib.Core.Path.{_≡_, refl, sym, ap, ap₂, _∙_}
-use mathlib.Core.List.{List, [], _∷_, _++_, append-assoc}
+use mathlib.Core.List.{List, [], _∷_, _++_}
 use Prim.Native.Nat.{ℕ, _+_, _-_, _≤_, _<_}
 use native.Mathlib.Nat.{add-zero, add-assoc}
 use native.Mathlib.Numerals.{add-one}
 use native.Mathlib.Omega.{arith}
-use lib.ListN.{length, take, drop, getD, set, length-append, length-take, length-drop, take-append-drop}
+use lib.ListN.{length, length-replicate, replicate-append-replicate, take, drop, getD, set, length-take, length-drop, take-append-drop}
 use lib.Seq.{take-at, drop-at, take-append-le, drop-append-le, drop-append-add, take-all, take-add, take-take, drop-drop, getD-take, getD-drop, drop-cons, take-suc, take-length, drop-set-lt, take-set-le, length-take-le}
+use Rattle.octets.specs.Bytes.{zeros}
 use Rattle.octets.specs.Place.{area, put}
-use Rattle.octets.proofs.Put.{drop-take, put-is, put-as, length-put, take-put, drop-put, take-put-in}
+use Rattle.octets.proofs.Put.{drop-take, put-as, length-put, take-put, drop-put, take-put-in}
 
 -- a part that is lent, `&s[at..at + n]`
 pub part-area : (at n : ℕ) (s : List ℕ) → take n (drop at s) ≡ area at n s
@@ -78,9 +79,25 @@ pub area-append-right : (xs ys : List ℕ) (at n : ℕ) → area (length xs + at
 unfolding area
 area-append-right xs ys at n = ap (take n) (drop-append-add xs ys at)
 
+pub area-left : (xs ys : List ℕ) (n : ℕ) → length xs ≡ n → area 0 n (xs ++ ys) ≡ xs
+unfolding area
+area-left xs ys n e = take-at xs ys n e
+
+pub area-right : (xs ys : List ℕ) (at n : ℕ) → length xs ≡ at → length ys ≡ n → area at n (xs ++ ys) ≡ ys
+unfolding area
+area-right xs ys at n p q = ap (take n) (drop-at xs ys at p) ∙ take-all n ys (omega arith)
+
 pub area-middle : (xs ys zs : List ℕ) (at n : ℕ) → length xs ≡ at → length ys ≡ n → area at n (xs ++ (ys ++ zs)) ≡ ys
 unfolding area
 area-middle xs ys zs at n p q = ap (take n) (drop-at xs (ys ++ zs) at p) ∙ take-at ys zs n q
+
+pub area-zeros : (at n m : ℕ) → at + n ≤ m → area at n (zeros m) ≡ zeros n
+area-zeros at n m h =
+    let r : ℕ = m - (at + n) in
+    let e : m ≡ at + (n + r) = omega arith in
+    ap (λ (k : ℕ). area at n (zeros k)) e
+    ∙ ap (area at n) (sym (replicate-append-replicate at (n + r) 0) ∙ ap (λ (l : List ℕ). zeros at ++ l) (sym (replicate-append-replicate n r 0)))
+    ∙ area-middle (zeros at) (zeros n) (zeros r) at n (length-replicate {A = ℕ} at 0) (length-replicate {A = ℕ} n 0)
 
 module _ (s : List ℕ) (at : ℕ) (bs : List ℕ) (h : at ≤ length s) where
   -- an area before the place, and one after it, is kept

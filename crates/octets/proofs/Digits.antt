@@ -1,12 +1,12 @@
 -- Numbers and their bytes, over the width: each gives the other back. Assumes nothing.
 use mathlib.Core.Path.{_≡_, refl, sym, ap, ap₂, _∙_}
 use mathlib.Core.List.{List, [], _∷_, _++_, append-assoc, append-nil}
-use Prim.Native.Nat.{ℕ, zero, suc, _+_, _*_, _/_, _%_, _^_, _≤_, _<_}
+use Prim.Native.Nat.{ℕ, zero, suc, _+_, _*_, _/_, _%_, _^_, _<_}
 use native.Mathlib.Nat.{add-zero, zero-add}
 use native.Mathlib.Omega.{arith}
 use lib.ListN.{length, length-append}
 use lib.Pow.{pow-add}
-use Rattle.octets.specs.Bytes.{Bytes, le, leValue, be, beFrom, beValue}
+use Rattle.octets.specs.Bytes.{Bytes, le, leValue, be, beFrom, beValue, zeros}
 use Rattle.octets.proofs.Byte.{bytes-tail}
 
 -- one byte more
@@ -87,3 +87,14 @@ unfolding beValue
 value-be-lt l h =
     let p : 0 < 2 ^ (8 * 0) = omega arith in
     rw zero-add at (be-from-lt 0 0 l h p)
+
+-- zeros stand for 0
+pub value-le-zeros : (n : ℕ) → leValue (zeros n) ≡ 0
+unfolding leValue
+value-le-zeros zero = refl
+value-le-zeros (suc n) = omega (arith, value-le-zeros n)
+
+pub value-be-zeros : (n : ℕ) → beValue (zeros n) ≡ 0
+unfolding beValue beFrom
+value-be-zeros zero = refl
+value-be-zeros (suc n) = value-be-zeros n

@@ -1,5 +1,6 @@
 -- Laws is what callers cite; the others are its topics.
 pub mod Laws
+pub mod Picks
 pub mod Digits
 pub mod Byte
 pub mod Put

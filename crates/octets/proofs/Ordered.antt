@@ -1,11 +1,10 @@
 -- Laws of the bytewise order: it is total, and big-endian bytes are ordered as their numbers. Assumes nothing.
-use mathlib.Core.Path.{_≡_, refl, sym, ap, ap₂, _∙_, subst}
+use mathlib.Core.Path.{_≡_, refl, sym, ap, ap₂, _∙_}
 use mathlib.Core.Bool.{Bool, true, false}
-use mathlib.Core.List.{List, [], _∷_, _++_, append-assoc}
-use Prim.Native.Nat.{ℕ, zero, suc, _+_, _*_, _/_, _%_, _^_, _≤_, _<_}
+use mathlib.Core.List.{List, [], _∷_, _++_, append-assoc, append-nil}
+use Prim.Native.Nat.{ℕ, zero, suc, _*_, _/_, _%_, _^_, _<_}
 use native.Mathlib.Omega.{arith}
 use lib.Dec.{ltb}
-use lib.ListN.{length}
 use borrow.Author.Tests.{lt-ltb, le-ltb, ltb-true, ltb-false}
 use Rattle.octets.specs.Pick.{pick}
 use Rattle.octets.specs.Bytes.{be}
@@ -119,3 +118,7 @@ order-be (suc w) a b xs ys h k =
     ap₂ orderOf (append-assoc (be w (a / 256)) ((a % 256) ∷ []) xs) (append-assoc (be w (b / 256)) ((b % 256) ∷ []) ys)
     ∙ order-be w (a / 256) (b / 256) ((a % 256) ∷ xs) ((b % 256) ∷ ys) p q
     ∙ first-digits a b o
+
+pub order-be-alone : (w a b : ℕ) → a < 2 ^ (8 * w) → b < 2 ^ (8 * w) → orderOf (be w a) (be w b) ≡ first a b Equal
+unfolding orderOf
+order-be-alone w a b h k = ap₂ orderOf (sym (append-nil (be w a))) (sym (append-nil (be w b))) ∙ order-be w a b [] [] h k

@@ -5,9 +5,9 @@ use Prim.Native.Nat.{ℕ, zero, suc, _+_, _-_, _≤_, _<_}
 use native.Mathlib.Nat.{add-assoc, add-zero, zero-add, suc-add}
 use native.Mathlib.Numerals.{add-one}
 use native.Mathlib.Omega.{arith}
-use lib.ListN.{length, take, drop, set, length-append, length-take, length-drop, take-append-drop}
-use lib.Seq.{take-at, drop-at, take-append-le, drop-append-le, take-append-add, take-take, drop-drop, set-split, length-take-le, take-nil}
-use Rattle.octets.specs.Place.{area, put}
+use lib.ListN.{length, take, drop, set, getD, List·getD-append, length-append, length-take, length-drop, take-append-drop}
+use lib.Seq.{take-at, drop-at, take-append-le, drop-append-le, take-append-add, take-take, drop-drop, set-split, length-take-le, take-nil, drop-length, getD-append-add, getD-take, getD-drop}
+use Rattle.octets.specs.Place.{put}
 
 pub drop-take : (m n : ℕ) (l : List ℕ) → drop m (take (m + n) l) ≡ take n (drop m l)
 drop-take zero n l = rw zero-add
@@ -25,6 +25,10 @@ put-as s at bs a z p q = put-is s at bs ∙ ap₂ (λ (x y : List ℕ). x ++ (bs
 pub put-none : (s : List ℕ) (at : ℕ) → put s at [] ≡ s
 unfolding put
 put-none s at = rw (add-zero, take-append-drop)
+
+pub put-all : (s bs : List ℕ) → length bs ≡ length s → put s 0 bs ≡ bs
+unfolding put
+put-all s bs e = rw (zero-add, e, drop-length, append-nil)
 
 module _ (s : List ℕ) (at : ℕ) (bs : List ℕ) where
   pub length-put : at + length bs ≤ length s → length (put s at bs) ≡ length s
@@ -62,6 +66,28 @@ module _ (s : List ℕ) (at : ℕ) (bs : List ℕ) where
       ∙ ap (drop m) (drop-put-end h)
       ∙ drop-drop m (at + length bs) s
       ∙ ap (λ (j : ℕ). drop j s) (sym q)
+
+  -- single bytes
+  pub getD-put : (i : ℕ) → at ≤ length s → i < length bs → getD (put s at bs) (at + i) 0 ≡ getD bs i 0
+  unfolding put
+  getD-put i h k =
+      ap (λ (n : ℕ). getD (put s at bs) (n + i) 0) (sym (length-take-le at s h))
+      ∙ getD-append-add (take at s) (bs ++ drop (at + length bs) s) i 0
+      ∙ List·getD-append bs (drop (at + length bs) s) 0 i k
+
+  pub getD-put-before : (i : ℕ) → at ≤ length s → i < at → getD (put s at bs) i 0 ≡ getD s i 0
+  unfolding put
+  getD-put-before i h k =
+      List·getD-append (take at s) (bs ++ drop (at + length bs) s) 0 i (omega (arith, length-take-le at s h)) ∙ getD-take at s i 0 k
+
+  pub getD-put-after : (i : ℕ) → at ≤ length s → at + length bs ≤ i → getD (put s at bs) i 0 ≡ getD s i 0
+  getD-put-after i h k =
+      let q : i ≡ i + 0 = omega arith in
+      ap (λ (n : ℕ). getD (put s at bs) n 0) q
+      ∙ sym (getD-drop i (put s at bs) 0 0)
+      ∙ ap (λ (l : List ℕ). getD l 0 0) (drop-put i h k)
+      ∙ getD-drop i s 0 0
+      ∙ ap (λ (n : ℕ). getD s n 0) (sym q)
 
   -- within what is kept: before the cut, and after it
   pub take-put-in : (n : ℕ) → at + length bs ≤ n → n ≤ length s → take n (put s at bs) ≡ put (take n s) at bs

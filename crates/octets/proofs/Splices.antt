@@ -1,8 +1,7 @@
 -- Laws of spliced: it is one put, and what each of its parts reads. Assumes nothing.
-use mathlib.Core.Path.{_≡_, refl, sym, ap, ap₂, _∙_}
-use mathlib.Core.List.{List, [], _∷_, _++_, append-assoc, append-nil}
-use Prim.Native.Nat.{ℕ, _+_, _-_, _≤_, _<_, max}
-use native.Mathlib.Nat.{add-assoc}
+use mathlib.Core.Path.{_≡_, refl, sym, ap, _∙_}
+use mathlib.Core.List.{List, _++_, append-assoc}
+use Prim.Native.Nat.{ℕ, _+_, _-_, _≤_, max}
 use native.Mathlib.Omega.{arith}
 use lib.ListN.{length, take, drop, length-append, length-replicate}
 use lib.Seq.{take-at, length-take-le}
@@ -12,7 +11,7 @@ use Rattle.octets.proofs.Put.{put-none, put-append, put-swap, length-pu
 use Rattle.octets.proofs.Areas.{length-area, area-middle, area-before}
 
 module _ (s : List ℕ) (used at gone : ℕ) (new : List ℕ) where
-  -- the rest in use, and where it was and is; where the bytes in use end, and the bytes that are cleared
+  -- the rest in use; where the bytes in use end; the bytes that are cleared; the bytes past both ends
   abbrev rest : List ℕ
   rest = area (at + gone) (used - (at + gone)) s
 

@@ -1,9 +1,8 @@
 -- `read_le` meets its contract: v is the number of the bytes from at + k on. Assumes nothing.
-use mathlib.Core.Path.{_≡_, refl, sym, ap, _∙_}
+use mathlib.Core.Path.{_≡_, ap, _∙_}
 use Prim.Native.Nat.{ℕ, _+_, _-_, _*_, _^_, _≤_, _<_}
 use borrow.Author.Needs.{needs}
 use native.Mathlib.Omega.{arith}
-use lib.ListN.{length}
 use lib.Pow.{pow-pos}
 use Rattle.octets.specs.Bytes.{leValue}
 use Rattle.octets.specs.Place.{area}

@@ -1,6 +1,6 @@
 -- `copy_in` meets its contract: what is left is to put the rest of s from at + i on. Assumes nothing.
 use mathlib.Core.Path.{_≡_, refl, sym, ap, _∙_}
-use Prim.Native.Nat.{ℕ, _+_, _-_, _≤_}
+use Prim.Native.Nat.{ℕ, _+_, _-_}
 use native.Mathlib.Omega.{arith}
 use lib.ListN.{length, drop, getD, length-set, drop-of-length-le}
 use Rattle.octets.specs.Place.{put}

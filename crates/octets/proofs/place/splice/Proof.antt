@@ -1,10 +1,9 @@
 -- `splice` meets its contract by the law of its steps. Assumes nothing.
 use mathlib.Core.Path.{_≡_, refl, sym, ap, _∙_}
-use Prim.Native.Nat.{ℕ, _+_, _-_}
+use Prim.Native.Nat.{ℕ, _-_}
 use mathlib.Core.List.{List}
 use borrow.Author.Needs.{needs}
 use native.Mathlib.Omega.{arith}
-use lib.ListN.{length}
 use Rattle.octets.specs.Bytes.{zeros}
 use Rattle.octets.specs.Place.{put, splicedEnd}
 use Rattle.octets.proofs.Splices.{filledIn, spliced-steps, spliced-grown}
