@@ -3,12 +3,13 @@ use mathlib.Core.Bool.{Bool, true, false}
 use mathlib.Core.Path.{_≡_, refl}
 use mathlib.Core.List.{List, [], _∷_, _++_, map}
 use mathlib.Core.Option.{Option, some, none}
-use Prim.Native.Nat.{ℕ, zero, suc, _+_}
+use Prim.Native.Nat.{ℕ, zero, suc, _+_, _-_, _^_}
 use lib.ListN.{length, replicate}
 use Rattle.octets.specs.Bytes.{zeros}
-use Rattle.id.specs.Id.{idOf, least}
+use Rattle.id.specs.Id.{idOf, least, greatest}
 use Rattle.index.specs.Entries as Index
-use Rattle.node.specs.Message.{Entry, live}
+use Rattle.index.specs.Operation as Indexed
+use Rattle.node.specs.Message.{Entry, live, Pair, pair}
 use Rattle.groups.specs.Group.{Group, Pending}
 use Rattle.stream.specs.Ledger.{Ledger}
 use Rattle.stream.specs.Command as Command
@@ -94,42 +95,11 @@ table =
     ∷ row (snapshot ledger) (0x01 ∷ 0x03 ∷ 0x00 ∷ 0x01 ∷ 0x1E ∷ 0x00 ∷ 0x00 ∷ 0x00 ∷ 0x10 ∷ 0x00 ∷ 0x00 ∷ 0x00 ∷ 0x02 ∷ 0x2E ∷ 0x00 ∷ 0x00 ∷ 0x00 ∷ 0x2C ∷ 0x00 ∷ 0x00 ∷ 0x00 ∷ 0x03 ∷ 0x5A ∷ 0x00 ∷ 0x00 ∷ 0x00 ∷ 0x32 ∷ 0x00 ∷ 0x00 ∷ 0x00 ∷ 0x00 ∷ 0x00 ∷ 0x00 ∷ 0x00 ∷ 0x00 ∷ 0x00 ∷ 0x00 ∷ 0x05 ∷ 0x00 ∷ 0x00 ∷ 0x00 ∷ 0x00 ∷ 0x00 ∷ 0x00 ∷ 0x00 ∷ 0x00 ∷ 0x00 ∷ 0x00 ∷ 0x00 ∷ 0x00 ∷ 0x00 ∷ 0x00 ∷ 0x00 ∷ 0x05 ∷ 0x00 ∷ 0x00 ∷ 0x00 ∷ 0x00 ∷ 0x00 ∷ 0x00 ∷ 0x00 ∷ 0x00 ∷ 0x1C ∷ 0x00 ∷ 0x00 ∷ 0x00 ∷ 0x0A ∷ 0x00 ∷ 0x01 ∷ 0x01 ∷ 0x00 ∷ 0x01 ∷ 0x01 ∷ 0x01 ∷ 0x81 ∷ 0x61 ∷ 0x02 ∷ 0x00 ∷ 0x01 ∷ 0x02 ∷ 0x01 ∷ 0x00 ∷ 0x01 ∷ 0x00 ∷ 0x01 ∷ 0x01 ∷ 0x01 ∷ 0x04 ∷ 0x01 ∷ 0xFF ∷ 0x01 ∷ 0x67 ∷ 0x00 ∷ 0x00 ∷ 0x00 ∷ 0x00 ∷ 0x00 ∷ 0x00 ∷ 0x00 ∷ 0x05 ∷ 0x00 ∷ 0x00 ∷ 0x00 ∷ 0x00 ∷ 0x00 ∷ 0x00 ∷ 0x00 ∷ 0x00 ∷ 0x01 ∷ 0x01 ∷ 0x63 ∷ 0x01 ∷ 0x00 ∷ 0x00 ∷ 0x00 ∷ 0x00 ∷ 0x00 ∷ 0x00 ∷ 0x00 ∷ 0x00 ∷ 0x05 ∷ 0x00 ∷ 0x00 ∷ 0x00 ∷ 0x00 ∷ 0x00 ∷ 0x00 ∷ 0x00 ∷ 0x00 ∷ 0x00 ∷ 0x07 ∷ 0x00 ∷ 0x00 ∷ 0x00 ∷ 0x00 ∷ 0x00 ∷ 0x00 ∷ 0x00 ∷ 0x01 ∷ 0x00 ∷ [])
     ∷ []
 
-pub written : map (λ (r : Row). bytesOf (r .what)) table ≡ map (λ (r : Row). r .bytes) table
-unfolding table le leValue be beFrom beValue allZero same orderOf area put spliced takeBytes idBytes idFrom differenceOf rebuiltOf idOrder followingOf digitsAfter positiveOf unsignedOf negativeOf signedOf patternOf digitsOf naturalText textOf itemOf integerBody textHead backLength encodeItem element elementSize Listpack.elements Listpack.header Listpack.listpack wideAt bodyAt backAt strict readElement parse parseMany parseListpack fits narrow extend masterStrings pairStrings entryStrings entriesStrings nodeStrings nodeBytes nodeSize slotOf areStrings arePairs isMessage sameStrings liveIn liveCount deletedCount readNumber readExactly readStrings readValues readPairs readEntry readEntries parseStrings parseNode parseSlot risingFrom areMessages isNode slipPairs slip cutString parsePairs parseSlip NodeStep.append NodeStep.takes NodeStep.fitsAlone NodeStep.markDeleted NodeStep.markOldest NodeStep.findMessage NodeStep.firstFrom NodeStep.valueOf areGroups isGroups regions areaBytes parseRegions parseArea placeOf pendingBytes allPending allNames bodyBytes allNameFields regionBytes areNames namesAbove risingNames isAmong pendingAbove pendingUpTo isPending arePending isGroup parseNameField parseNameFields parsePending parseAllPending parseRegion takeName takeNames parseBody Groups.withName Groups.withoutName Groups.findPending Groups.putPending Groups.withoutPending Groups.pendingOf Groups.pendingOfOthers Groups.firstAbove Groups.deliver Groups.acknowledge Groups.claim Groups.nextPending Groups.dropConsumer Groups.findGroup Groups.putGroup Groups.withoutGroup Cut.entriesOf Cut.isTaken Cut.areNodes Cut.allUpTo Cut.isModel Cut.freeFrom Cut.lowestFree Cut.highestTakes Cut.addTo Cut.addMessage Cut.lacksSlot Cut.freed Cut.markInNodes Cut.deleteMessage Cut.markOldestInNodes Cut.deleteOldest Cut.addAll Cut.freshCut nodeOf nodesOf freeZero imageFrom messagesAbove isLedger onSetUp addAs clockId withoutMessage onTrim onCreate lacksConsumer firstAfter drops run answers step partsOf contents bodies fileOf snapshotOf saveReply loads takeParts parseFile readNode readParts parseSnapshot
-written = refl
-
-pub elements17 : length (nodeStrings second) ≡ 17
-unfolding le leValue be beFrom beValue allZero same orderOf area put spliced takeBytes idBytes idFrom differenceOf rebuiltOf idOrder followingOf digitsAfter positiveOf unsignedOf negativeOf signedOf patternOf digitsOf naturalText textOf itemOf integerBody textHead backLength encodeItem element elementSize Listpack.elements Listpack.header Listpack.listpack wideAt bodyAt backAt strict readElement parse parseMany parseListpack fits narrow extend masterStrings pairStrings entryStrings entriesStrings nodeStrings nodeBytes nodeSize slotOf areStrings arePairs isMessage sameStrings liveIn liveCount deletedCount readNumber readExactly readStrings readValues readPairs readEntry readEntries parseStrings parseNode parseSlot risingFrom areMessages isNode slipPairs slip cutString parsePairs parseSlip NodeStep.append NodeStep.takes NodeStep.fitsAlone NodeStep.markDeleted NodeStep.markOldest NodeStep.findMessage NodeStep.firstFrom NodeStep.valueOf areGroups isGroups regions areaBytes parseRegions parseArea placeOf pendingBytes allPending allNames bodyBytes allNameFields regionBytes areNames namesAbove risingNames isAmong pendingAbove pendingUpTo isPending arePending isGroup parseNameField parseNameFields parsePending parseAllPending parseRegion takeName takeNames parseBody Groups.withName Groups.withoutName Groups.findPending Groups.putPending Groups.withoutPending Groups.pendingOf Groups.pendingOfOthers Groups.firstAbove Groups.deliver Groups.acknowledge Groups.claim Groups.nextPending Groups.dropConsumer Groups.findGroup Groups.putGroup Groups.withoutGroup Cut.entriesOf Cut.isTaken Cut.areNodes Cut.allUpTo Cut.isModel Cut.freeFrom Cut.lowestFree Cut.highestTakes Cut.addTo Cut.addMessage Cut.lacksSlot Cut.freed Cut.markInNodes Cut.deleteMessage Cut.markOldestInNodes Cut.deleteOldest Cut.addAll Cut.freshCut nodeOf nodesOf freeZero imageFrom messagesAbove isLedger onSetUp addAs clockId withoutMessage onTrim onCreate lacksConsumer firstAfter drops run answers step partsOf contents bodies fileOf snapshotOf saveReply loads takeParts parseFile readNode readParts parseSnapshot
-elements17 = refl
-
-pub sizes : map nodeSize (second ∷ aged 127 ∷ aged 128 ∷ []) ≡ 43 ∷ 1320 ∷ 1321 ∷ []
-unfolding aged series le leValue be beFrom beValue allZero same orderOf area put spliced takeBytes idBytes idFrom differenceOf rebuiltOf idOrder followingOf digitsAfter positiveOf unsignedOf negativeOf signedOf patternOf digitsOf naturalText textOf itemOf integerBody textHead backLength encodeItem element elementSize Listpack.elements Listpack.header Listpack.listpack wideAt bodyAt backAt strict readElement parse parseMany parseListpack fits narrow extend masterStrings pairStrings entryStrings entriesStrings nodeStrings nodeBytes nodeSize slotOf areStrings arePairs isMessage sameStrings liveIn liveCount deletedCount readNumber readExactly readStrings readValues readPairs readEntry readEntries parseStrings parseNode parseSlot risingFrom areMessages isNode slipPairs slip cutString parsePairs parseSlip NodeStep.append NodeStep.takes NodeStep.fitsAlone NodeStep.markDeleted NodeStep.markOldest NodeStep.findMessage NodeStep.firstFrom NodeStep.valueOf areGroups isGroups regions areaBytes parseRegions parseArea placeOf pendingBytes allPending allNames bodyBytes allNameFields regionBytes areNames namesAbove risingNames isAmong pendingAbove pendingUpTo isPending arePending isGroup parseNameField parseNameFields parsePending parseAllPending parseRegion takeName takeNames parseBody Groups.withName Groups.withoutName Groups.findPending Groups.putPending Groups.withoutPending Groups.pendingOf Groups.pendingOfOthers Groups.firstAbove Groups.deliver Groups.acknowledge Groups.claim Groups.nextPending Groups.dropConsumer Groups.findGroup Groups.putGroup Groups.withoutGroup Cut.entriesOf Cut.isTaken Cut.areNodes Cut.allUpTo Cut.isModel Cut.freeFrom Cut.lowestFree Cut.highestTakes Cut.addTo Cut.addMessage Cut.lacksSlot Cut.freed Cut.markInNodes Cut.deleteMessage Cut.markOldestInNodes Cut.deleteOldest Cut.addAll Cut.freshCut nodeOf nodesOf freeZero imageFrom messagesAbove isLedger onSetUp addAs clockId withoutMessage onTrim onCreate lacksConsumer firstAfter drops run answers step partsOf contents bodies fileOf snapshotOf saveReply loads takeParts parseFile readNode readParts parseSnapshot
-sizes = refl
-
 abbrev cases : List Case
 cases = node second ∷ node backwards ∷ node (aged 127) ∷ node (aged 128) ∷ snapshot ledger ∷ []
 
-pub readBack : map readIn cases ≡ map some cases
-unfolding aged series le leValue be beFrom beValue allZero same orderOf area put spliced takeBytes idBytes idFrom differenceOf rebuiltOf idOrder followingOf digitsAfter positiveOf unsignedOf negativeOf signedOf patternOf digitsOf naturalText textOf itemOf integerBody textHead backLength encodeItem element elementSize Listpack.elements Listpack.header Listpack.listpack wideAt bodyAt backAt strict readElement parse parseMany parseListpack fits narrow extend masterStrings pairStrings entryStrings entriesStrings nodeStrings nodeBytes nodeSize slotOf areStrings arePairs isMessage sameStrings liveIn liveCount deletedCount readNumber readExactly readStrings readValues readPairs readEntry readEntries parseStrings parseNode parseSlot risingFrom areMessages isNode slipPairs slip cutString parsePairs parseSlip NodeStep.append NodeStep.takes NodeStep.fitsAlone NodeStep.markDeleted NodeStep.markOldest NodeStep.findMessage NodeStep.firstFrom NodeStep.valueOf areGroups isGroups regions areaBytes parseRegions parseArea placeOf pendingBytes allPending allNames bodyBytes allNameFields regionBytes areNames namesAbove risingNames isAmong pendingAbove pendingUpTo isPending arePending isGroup parseNameField parseNameFields parsePending parseAllPending parseRegion takeName takeNames parseBody Groups.withName Groups.withoutName Groups.findPending Groups.putPending Groups.withoutPending Groups.pendingOf Groups.pendingOfOthers Groups.firstAbove Groups.deliver Groups.acknowledge Groups.claim Groups.nextPending Groups.dropConsumer Groups.findGroup Groups.putGroup Groups.withoutGroup Cut.entriesOf Cut.isTaken Cut.areNodes Cut.allUpTo Cut.isModel Cut.freeFrom Cut.lowestFree Cut.highestTakes Cut.addTo Cut.addMessage Cut.lacksSlot Cut.freed Cut.markInNodes Cut.deleteMessage Cut.markOldestInNodes Cut.deleteOldest Cut.addAll Cut.freshCut nodeOf nodesOf freeZero imageFrom messagesAbove isLedger onSetUp addAs clockId withoutMessage onTrim onCreate lacksConsumer firstAfter drops run answers step partsOf contents bodies fileOf snapshotOf saveReply loads takeParts parseFile readNode readParts parseSnapshot
-readBack = refl
-
--- a region and a body give the group back
-pub region : (length (regionBytes group) ≡ 7220) × (parseRegion (regionBytes group) ≡ some group) × (parseBody (bodyBytes group) ≡ some group)
-unfolding le leValue be beFrom beValue allZero same orderOf area put spliced takeBytes idBytes idFrom differenceOf rebuiltOf idOrder followingOf digitsAfter positiveOf unsignedOf negativeOf signedOf patternOf digitsOf naturalText textOf itemOf integerBody textHead backLength encodeItem element elementSize Listpack.elements Listpack.header Listpack.listpack wideAt bodyAt backAt strict readElement parse parseMany parseListpack fits narrow extend masterStrings pairStrings entryStrings entriesStrings nodeStrings nodeBytes nodeSize slotOf areStrings arePairs isMessage sameStrings liveIn liveCount deletedCount readNumber readExactly readStrings readValues readPairs readEntry readEntries parseStrings parseNode parseSlot risingFrom areMessages isNode slipPairs slip cutString parsePairs parseSlip NodeStep.append NodeStep.takes NodeStep.fitsAlone NodeStep.markDeleted NodeStep.markOldest NodeStep.findMessage NodeStep.firstFrom NodeStep.valueOf areGroups isGroups regions areaBytes parseRegions parseArea placeOf pendingBytes allPending allNames bodyBytes allNameFields regionBytes areNames namesAbove risingNames isAmong pendingAbove pendingUpTo isPending arePending isGroup parseNameField parseNameFields parsePending parseAllPending parseRegion takeName takeNames parseBody Groups.withName Groups.withoutName Groups.findPending Groups.putPending Groups.withoutPending Groups.pendingOf Groups.pendingOfOthers Groups.firstAbove Groups.deliver Groups.acknowledge Groups.claim Groups.nextPending Groups.dropConsumer Groups.findGroup Groups.putGroup Groups.withoutGroup Cut.entriesOf Cut.isTaken Cut.areNodes Cut.allUpTo Cut.isModel Cut.freeFrom Cut.lowestFree Cut.highestTakes Cut.addTo Cut.addMessage Cut.lacksSlot Cut.freed Cut.markInNodes Cut.deleteMessage Cut.markOldestInNodes Cut.deleteOldest Cut.addAll Cut.freshCut nodeOf nodesOf freeZero imageFrom messagesAbove isLedger onSetUp addAs clockId withoutMessage onTrim onCreate lacksConsumer firstAfter drops run answers step partsOf contents bodies fileOf snapshotOf saveReply loads takeParts parseFile readNode readParts parseSnapshot
-region = (refl, refl, refl)
-
-pub area8 : parseArea (idOf 5 0) (areaBytes (group ∷ [])) ≡ some (group ∷ [])
-unfolding le leValue be beFrom beValue allZero same orderOf area put spliced takeBytes idBytes idFrom differenceOf rebuiltOf idOrder followingOf digitsAfter positiveOf unsignedOf negativeOf signedOf patternOf digitsOf naturalText textOf itemOf integerBody textHead backLength encodeItem element elementSize Listpack.elements Listpack.header Listpack.listpack wideAt bodyAt backAt strict readElement parse parseMany parseListpack fits narrow extend masterStrings pairStrings entryStrings entriesStrings nodeStrings nodeBytes nodeSize slotOf areStrings arePairs isMessage sameStrings liveIn liveCount deletedCount readNumber readExactly readStrings readValues readPairs readEntry readEntries parseStrings parseNode parseSlot risingFrom areMessages isNode slipPairs slip cutString parsePairs parseSlip NodeStep.append NodeStep.takes NodeStep.fitsAlone NodeStep.markDeleted NodeStep.markOldest NodeStep.findMessage NodeStep.firstFrom NodeStep.valueOf areGroups isGroups regions areaBytes parseRegions parseArea placeOf pendingBytes allPending allNames bodyBytes allNameFields regionBytes areNames namesAbove risingNames isAmong pendingAbove pendingUpTo isPending arePending isGroup parseNameField parseNameFields parsePending parseAllPending parseRegion takeName takeNames parseBody Groups.withName Groups.withoutName Groups.findPending Groups.putPending Groups.withoutPending Groups.pendingOf Groups.pendingOfOthers Groups.firstAbove Groups.deliver Groups.acknowledge Groups.claim Groups.nextPending Groups.dropConsumer Groups.findGroup Groups.putGroup Groups.withoutGroup Cut.entriesOf Cut.isTaken Cut.areNodes Cut.allUpTo Cut.isModel Cut.freeFrom Cut.lowestFree Cut.highestTakes Cut.addTo Cut.addMessage Cut.lacksSlot Cut.freed Cut.markInNodes Cut.deleteMessage Cut.markOldestInNodes Cut.deleteOldest Cut.addAll Cut.freshCut nodeOf nodesOf freeZero imageFrom messagesAbove isLedger onSetUp addAs clockId withoutMessage onTrim onCreate lacksConsumer firstAfter drops run answers step partsOf contents bodies fileOf snapshotOf saveReply loads takeParts parseFile readNode readParts parseSnapshot
-area8 = refl
-
--- a store of two slots and a tail: the second slot holds the node
-pub image : imageFrom (zeros 4096 ++ (slotOf second ++ (9 ∷ []))) (idOf 6 0) (Index.entry (idBytes (idOf 5 0)) 1 ∷ []) (areaBytes (group ∷ []))
-    ≡ some (record { nodes = Cut.nodeAt 1 second ∷ []; last = idOf 6 0; groups = group ∷ [] })
-unfolding le leValue be beFrom beValue allZero same orderOf area put spliced takeBytes idBytes idFrom differenceOf rebuiltOf idOrder followingOf digitsAfter positiveOf unsignedOf negativeOf signedOf patternOf digitsOf naturalText textOf itemOf integerBody textHead backLength encodeItem element elementSize Listpack.elements Listpack.header Listpack.listpack wideAt bodyAt backAt strict readElement parse parseMany parseListpack fits narrow extend masterStrings pairStrings entryStrings entriesStrings nodeStrings nodeBytes nodeSize slotOf areStrings arePairs isMessage sameStrings liveIn liveCount deletedCount readNumber readExactly readStrings readValues readPairs readEntry readEntries parseStrings parseNode parseSlot risingFrom areMessages isNode slipPairs slip cutString parsePairs parseSlip NodeStep.append NodeStep.takes NodeStep.fitsAlone NodeStep.markDeleted NodeStep.markOldest NodeStep.findMessage NodeStep.firstFrom NodeStep.valueOf areGroups isGroups regions areaBytes parseRegions parseArea placeOf pendingBytes allPending allNames bodyBytes allNameFields regionBytes areNames namesAbove risingNames isAmong pendingAbove pendingUpTo isPending arePending isGroup parseNameField parseNameFields parsePending parseAllPending parseRegion takeName takeNames parseBody Groups.withName Groups.withoutName Groups.findPending Groups.putPending Groups.withoutPending Groups.pendingOf Groups.pendingOfOthers Groups.firstAbove Groups.deliver Groups.acknowledge Groups.claim Groups.nextPending Groups.dropConsumer Groups.findGroup Groups.putGroup Groups.withoutGroup Cut.entriesOf Cut.isTaken Cut.areNodes Cut.allUpTo Cut.isModel Cut.freeFrom Cut.lowestFree Cut.highestTakes Cut.addTo Cut.addMessage Cut.lacksSlot Cut.freed Cut.markInNodes Cut.deleteMessage Cut.markOldestInNodes Cut.deleteOldest Cut.addAll Cut.freshCut nodeOf nodesOf freeZero imageFrom messagesAbove isLedger onSetUp addAs clockId withoutMessage onTrim onCreate lacksConsumer firstAfter drops run answers step partsOf contents bodies fileOf snapshotOf saveReply loads takeParts parseFile readNode readParts parseSnapshot
-image = refl
-
 abbrev slipOf : List ℕ → List ℕ → List ℕ
-slipOf f v = slip (Rattle.node.specs.Message.pair f v ∷ [])
+slipOf f v = slip (pair f v ∷ [])
 
 abbrev g : List ℕ
 g = 103 ∷ []
@@ -190,6 +160,86 @@ asks =
     ∷ asked (Command.next least) (Command.given (idOf 5 0))
     ∷ []
 
-pub answered : answersAll 1 (map (λ (x : Asked). x .command) asks) none ≡ map (λ (x : Asked). x .answer) asks
-unfolding asks le leValue be beFrom beValue allZero same orderOf area put spliced takeBytes idBytes idFrom differenceOf rebuiltOf idOrder followingOf digitsAfter positiveOf unsignedOf negativeOf signedOf patternOf digitsOf naturalText textOf itemOf integerBody textHead backLength encodeItem element elementSize Listpack.elements Listpack.header Listpack.listpack wideAt bodyAt backAt strict readElement parse parseMany parseListpack fits narrow extend masterStrings pairStrings entryStrings entriesStrings nodeStrings nodeBytes nodeSize slotOf areStrings arePairs isMessage sameStrings liveIn liveCount deletedCount readNumber readExactly readStrings readValues readPairs readEntry readEntries parseStrings parseNode parseSlot risingFrom areMessages isNode slipPairs slip cutString parsePairs parseSlip NodeStep.append NodeStep.takes NodeStep.fitsAlone NodeStep.markDeleted NodeStep.markOldest NodeStep.findMessage NodeStep.firstFrom NodeStep.valueOf areGroups isGroups regions areaBytes parseRegions parseArea placeOf pendingBytes allPending allNames bodyBytes allNameFields regionBytes areNames namesAbove risingNames isAmong pendingAbove pendingUpTo isPending arePending isGroup parseNameField parseNameFields parsePending parseAllPending parseRegion takeName takeNames parseBody Groups.withName Groups.withoutName Groups.findPending Groups.putPending Groups.withoutPending Groups.pendingOf Groups.pendingOfOthers Groups.firstAbove Groups.deliver Groups.acknowledge Groups.claim Groups.nextPending Groups.dropConsumer Groups.findGroup Groups.putGroup Groups.withoutGroup Cut.entriesOf Cut.isTaken Cut.areNodes Cut.allUpTo Cut.isModel Cut.freeFrom Cut.lowestFree Cut.highestTakes Cut.addTo Cut.addMessage Cut.lacksSlot Cut.freed Cut.markInNodes Cut.deleteMessage Cut.markOldestInNodes Cut.deleteOldest Cut.addAll Cut.freshCut nodeOf nodesOf freeZero imageFrom messagesAbove isLedger onSetUp addAs clockId withoutMessage onTrim onCreate lacksConsumer firstAfter drops run answers step partsOf contents bodies fileOf snapshotOf saveReply loads takeParts parseFile readNode readParts parseSnapshot
-answered = refl
+-- n pairs of a with a long value
+pub wide : ℕ → List Pair
+wide zero = []
+wide (suc n) = pair a (replicate 1000 120) ∷ wide n
+
+abbrev names : ℕ → List ℕ
+names n = n ∷ []
+
+abbrev creates : ℕ → Asked
+creates n = asked (Command.createGroup (names n) least) Command.done
+
+abbrev claims : ℕ → Asked
+claims n = asked (Command.claim (names 1) (names n) 0 (idOf 1 0) 0) Command.moved
+
+-- two nodes of a message each
+abbrev two : Ledger
+two =
+    record {
+      messages = record { id = idOf 1 0; pairs = wide 3 } ∷ record { id = idOf 2 0; pairs = wide 3 } ∷ [];
+      last = idOf 2 0;
+      groups = [];
+    }
+
+-- refusals, on a store of one slot; and what set up answers where there is none
+pub refusals : List Asked
+unfolding wide
+refusals =
+    record { command = save 0; answer = Command.refused 2 }
+    ∷ asked Command.setUp Command.done
+    ∷ asked (Command.add (idOf 1 0) (slipOf a one)) (Command.given (idOf 1 0))
+    ∷ asked (Command.add (idOf 2 0) (slip (wide 5))) (Command.refused 6)
+    ∷ asked (Command.add (idOf 2 0) (slip (wide 3))) (Command.given (idOf 2 0))
+    ∷ asked (Command.add (idOf 3 0) (slip (wide 2))) (Command.refused 7)
+    ∷ (map creates (1 ∷ 2 ∷ 3 ∷ 4 ∷ 5 ∷ 6 ∷ 7 ∷ 8 ∷ [])
+    ++ (asked (Command.createGroup (names 9) least) (Command.refused 11)
+    ∷ asked (Command.createGroup (names 8) least) (Command.refused 10)
+    ∷ asked (Command.groupRead (names 1) (names 1) 0) (Command.given (idOf 1 0))
+    ∷ (map claims (2 ∷ 3 ∷ 4 ∷ 5 ∷ 6 ∷ 7 ∷ 8 ∷ 9 ∷ 10 ∷ 11 ∷ 12 ∷ 13 ∷ 14 ∷ 15 ∷ 16 ∷ 1 ∷ [])
+    ++ (asked (Command.claim (names 1) (names 17) 0 (idOf 1 0) 0) (Command.refused 12)
+    ∷ asked (Command.groupRead (names 1) (names 17) 0) (Command.refused 12)
+    ∷ asked (Command.add greatest (slipOf a one)) (Command.given greatest)
+    ∷ asked (Command.addByClock (2 ^ 64 - 1) (slipOf a one)) (Command.refused 5)
+    ∷ record { command = load (snapshotOf two); answer = Command.refused 17 }
+    ∷ []))))
+
+-- what is computed
+pub record Computed : Type 0 where
+  pub written : map (λ (r : Row). bytesOf (r .what)) table ≡ map (λ (r : Row). r .bytes) table
+  pub elements17 : length (nodeStrings second) ≡ 17
+  pub sizes : map nodeSize (second ∷ aged 127 ∷ aged 128 ∷ []) ≡ 43 ∷ 1320 ∷ 1321 ∷ []
+  pub readBack : map readIn cases ≡ map some cases
+  -- a region and a body give the group back
+  pub region : (length (regionBytes group) ≡ 7220) × (parseRegion (regionBytes group) ≡ some group) × (parseBody (bodyBytes group) ≡ some group)
+  pub area8 : parseArea (idOf 5 0) (areaBytes (group ∷ [])) ≡ some (group ∷ [])
+  -- a store of two slots and a tail: the second slot holds the node
+  pub image : imageFrom (zeros 4096 ++ (slotOf second ++ (9 ∷ []))) (idOf 6 0) (Index.entry (idBytes (idOf 5 0)) 1 ∷ []) (areaBytes (group ∷ []))
+      ≡ some (record { nodes = Cut.nodeAt 1 second ∷ []; last = idOf 6 0; groups = group ∷ [] })
+  pub answered : answersAll 1 (map (λ (x : Asked). x .command) asks) none ≡ map (λ (x : Asked). x .answer) asks
+  pub refused : answersAll 1 (map (λ (x : Asked). x .command) refusals) none ≡ map (λ (x : Asked). x .answer) refusals
+  pub no-slot : answersAll 0 (onStream Command.setUp ∷ load [] ∷ []) (some Cut.emptyModel) ≡ Command.refused 1 ∷ Command.refused 1 ∷ []
+  -- the index by its entries
+  pub indexed : Indexed.replies
+      (Indexed.put [] 1 ∷ Indexed.put a 1 ∷ Indexed.put c 3 ∷ Indexed.put a 2 ∷ Indexed.find a ∷ Indexed.firstAtOrAbove b
+      ∷ Indexed.lastAtOrBelow b ∷ Indexed.remove a ∷ Indexed.remove a ∷ Indexed.lastAtOrBelow b ∷ []) []
+      ≡ Indexed.refused 3 ∷ Indexed.done ∷ Indexed.done ∷ Indexed.done ∷ Indexed.value 2 ∷ Indexed.found (Index.entry c 3)
+      ∷ Indexed.found (Index.entry a 2) ∷ Indexed.removed 1 ∷ Indexed.removed 0 ∷ Indexed.nothing ∷ []
+
+pub computed : Computed
+unfolding Index.firstFrom Index.insert Index.lastUpTo Index.lookup Index.without Indexed.putTo Indexed.removeFrom Indexed.replies aged asks refusals series table wide le leValue be beFrom beValue allZero same orderOf area put spliced takeBytes idBytes idFrom differenceOf rebuiltOf idOrder followingOf digitsAfter positiveOf unsignedOf negativeOf signedOf patternOf digitsOf naturalText textOf itemOf integerBody textHead backLength encodeItem element elementSize Listpack.elements Listpack.header Listpack.listpack wideAt bodyAt backAt strict readElement parse parseMany parseListpack fits narrow extend masterStrings pairStrings entryStrings entriesStrings nodeStrings nodeBytes nodeSize slotOf areStrings arePairs isMessage sameStrings liveIn liveCount deletedCount readNumber readExactly readStrings readValues readPairs readEntry readEntries parseStrings parseNode parseSlot risingFrom areMessages isNode slipPairs slip cutString parsePairs parseSlip NodeStep.append NodeStep.takes NodeStep.fitsAlone NodeStep.markDeleted NodeStep.markOldest NodeStep.findMessage NodeStep.firstFrom NodeStep.valueOf areGroups isGroups regions areaBytes parseRegions parseArea placeOf pendingBytes allPending allNames bodyBytes allNameFields regionBytes areNames namesAbove risingNames isAmong pendingAbove pendingUpTo isPending arePending isGroup parseNameField parseNameFields parsePending parseAllPending parseRegion takeName takeNames parseBody Groups.withName Groups.withoutName Groups.findPending Groups.putPending Groups.withoutPending Groups.pendingOf Groups.pendingOfOthers Groups.firstAbove Groups.deliver Groups.acknowledge Groups.claim Groups.nextPending Groups.dropConsumer Groups.findGroup Groups.putGroup Groups.withoutGroup Cut.entriesOf Cut.isTaken Cut.areNodes Cut.allUpTo Cut.isModel Cut.freeFrom Cut.lowestFree Cut.highestTakes Cut.addTo Cut.addMessage Cut.lacksSlot Cut.freed Cut.markInNodes Cut.deleteMessage Cut.markOldestInNodes Cut.deleteOldest Cut.addAll Cut.freshCut nodeOf nodesOf freeZero imageFrom messagesAbove isLedger onSetUp addAs clockId withoutMessage onTrim onCreate lacksConsumer firstAfter drops run answers step partsOf contents bodies fileOf snapshotOf saveReply loads takeParts parseFile readNode readParts parseSnapshot
+computed =
+    record {
+      written = refl;
+      elements17 = refl;
+      sizes = refl;
+      readBack = refl;
+      region = (refl, refl, refl);
+      area8 = refl;
+      image = refl;
+      answered = refl;
+      refused = refl;
+      no-slot = refl;
+      indexed = refl;
+    }
