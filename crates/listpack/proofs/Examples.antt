@@ -13,7 +13,7 @@ use Rattle.decimal.specs.Text.{textOf, naturalText, digitsOf}
 use Rattle.listpack.specs.Width.{fits, narrow, extend, halfOf}
 use Rattle.listpack.specs.Element.{element, encodeItem, itemOf, integerBody, textHead, backLength}
 use Rattle.listpack.specs.Listpack.{listpack, header, elements}
-use Rattle.listpack.specs.Read.{parse, Parsed, readElement, bodyAt, wideAt, strict, backAt, parseMany, parseListpack}
+use Rattle.listpack.specs.Read.{parse, Parsed, readElement, readBy, readWide, closeInteger, textStands, asText, closeText, tagWidth, backAt, parseMany, parseListpack}
 
 pub record Row : Type 0 where
   pub string : List ℕ
@@ -47,5 +47,31 @@ abbrev found : Row → Option Parsed
 found r = some (record { string = r .string; size = length (r .bytes) })
 
 read : map (λ (r : Row). parse (r .bytes ++ (7 ∷ []))) table ≡ map found table
-unfolding table parse readElement bodyAt wideAt strict backAt extend integerBody textHead backLength fits narrow le leValue area patternOf signedOf negativeOf unsignedOf positiveOf digitsAfter same textOf naturalText digitsOf
+unfolding table parse readElement readBy readWide closeInteger textStands asText closeText tagWidth backAt extend integerBody textHead backLength fits narrow le leValue area patternOf signedOf negativeOf unsignedOf positiveOf digitsAfter same textOf naturalText digitsOf
 read = refl
+
+-- bytes that hold a value in another form than the one that is written, or none
+table-refused : List (List ℕ)
+table-refused =
+    (0x83 ∷ 0x31 ∷ 0x32 ∷ 0x37 ∷ 0x04 ∷ [])
+    ∷ (0xC0 ∷ 0x7F ∷ 0x02 ∷ [])
+    ∷ (0xF1 ∷ 0xFF ∷ 0x0F ∷ 0x03 ∷ [])
+    ∷ (0xF0 ∷ 0x01 ∷ 0x00 ∷ 0x00 ∷ 0x00 ∷ 0x61 ∷ 0x06 ∷ [])
+    ∷ (0xE0 ∷ 0x01 ∷ 0x61 ∷ 0x03 ∷ [])
+    ∷ (0x81 ∷ 0x61 ∷ 0x03 ∷ [])
+    ∷ (0x7F ∷ [])
+    ∷ (0xFF ∷ 0x01 ∷ [])
+    ∷ []
+
+refused : map parse table-refused ≡ map (λ (b : List ℕ). none) table-refused
+unfolding table-refused parse readElement readBy readWide closeInteger textStands asText closeText tagWidth backAt extend integerBody textHead backLength fits narrow le leValue area patternOf signedOf negativeOf unsignedOf positiveOf digitsAfter same
+refused = refl
+
+-- the empty listpack (01, Examples by byte)
+empty : listpack [] ≡ 0x07 ∷ 0x00 ∷ 0x00 ∷ 0x00 ∷ 0x00 ∷ 0x00 ∷ 0xFF ∷ []
+unfolding listpack header elements le
+empty = refl
+
+read-empty : parseListpack (0x07 ∷ 0x00 ∷ 0x00 ∷ 0x00 ∷ 0x00 ∷ 0x00 ∷ 0xFF ∷ []) ≡ some []
+unfolding parseListpack parseMany leValue area same
+read-empty = refl

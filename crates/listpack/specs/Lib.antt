@@ -3,3 +3,4 @@ pub mod Width
 pub mod Element
 pub mod Listpack
 pub mod Read
+pub mod Cursor

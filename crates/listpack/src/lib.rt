@@ -1,5 +1,28 @@
 // The listpack encoding: strings as elements, a strict reader and a writer. What each function answers is said in specs/.
 
+mod cursor;
+mod form;
+mod header;
+mod is;
+mod read;
+mod size;
+mod write;
+
+pub use cursor::Cursor;
+pub use cursor::Step;
+pub use cursor::check;
+pub use cursor::size_of;
+pub use header::read_count;
+pub use header::read_total;
+pub use header::write_empty;
+pub use header::write_header;
+pub use is::element_is;
+pub use read::read_element;
+pub use size::element_size;
+pub use size::integer_size;
+pub use write::write_integer;
+pub use write::write_string;
+
 // One element: an integer as its 64-bit pattern, or a text that lies at `start`, `len` bytes long; `size` is the element's.
 pub enum Element {
     Integer {

@@ -1,0 +1,37 @@
+use mathlib.Core.Path.{refl, sym, ap, _∙_}
+use native.Mathlib.Omega.{arith}
+use Rattle.listpack.proofs.Leaves.{read-none, read-tiny, read-text, read-short, read-long, read-tagged, tag-most}
+use Rattle.listpack.specs.Read.{closeInteger, asText, readWide}
+use Prim.Native.Nat.{_+_, _-_, _*_}
+use denote.Ref.{now}
+use borrow.Author.Needs.{needs}
+use Rattle.listpack.proofs.read.read_element.Statement.{statement}
+use Rattle.listpack.proofs.read.read_element.Tie as tie
+
+pub read-element-spec : {M : Type 1} → statement M
+read-element-spec =
+    tie.close
+    (tie.spec
+    (λ c. sym (read-none _ (omega arith)))
+    (λ c. search needs)
+    (λ c κs. search needs)
+    (λ c κs. search needs)
+    (λ c. c .close-integer .ensures ∙ sym (read-tiny _ _ _ (omega arith) (omega arith) refl (omega arith)))
+    (λ c κs. search needs)
+    (λ c κs. search needs)
+    (λ c. let l = c .before .before .before .before .wide .result - 128 in c .as-text .ensures ∙ ap (asText 1 l) (c .before .text-stands .ensures) ∙ sym (read-text _ _ _ (omega arith) (omega arith) refl (omega arith) (omega arith)))
+    (λ c. search needs)
+    (λ c κs. search needs)
+    (λ c. search needs)
+    (λ c. search needs)
+    (λ c κs. search needs)
+    (λ c κs. search needs)
+    (λ c. let s = now (c .before .before .before .before .before .before .before .before .before .before .before .args .s) in c .close-integer2 .ensures ∙ ap (λ p. closeInteger s p 2) (c .before .extend .ensures) ∙ sym (read-short _ _ _ (omega arith) (omega arith) (omega arith) (omega arith) (omega arith)))
+    (λ c. search needs)
+    (λ c. search needs)
+    (λ c κs. search needs)
+    (λ c κs. search needs)
+    (λ c. let l = 256 * (c .before .before .before .before .before .before .before .before .wide .result - 224) + c .before .before .before .before .wide2 .result in c .as-text2 .ensures ∙ ap (asText 2 l) (c .before .text-stands2 .ensures) ∙ sym (read-long _ _ _ (omega arith) (omega arith) (omega arith) (omega arith) (omega arith)))
+    (λ c κs. search needs)
+    (λ c κs. omega (arith, tag-most (c .before .before .before .before .before .before .before .wide .result)))
+    (λ c. let s = now (c .before .before .before .before .before .before .before .before .before .before .before .before .args .s) in c .read-wide .ensures ∙ ap (λ w. readWide w s) (c .before .tag-width .ensures) ∙ sym (read-tagged s (c .before .before .before .before .before .before .before .before .wide .result) _ (omega arith) (omega arith) refl (omega arith))))

@@ -1,0 +1,161 @@
+// The strict reader of one element.
+
+ghost use mathlib.Core.Path.{_≡_};
+ghost use Prim.Native.Nat.{_≤_, _<_};
+ghost use lib.ListN.{length};
+ghost use Rattle.octets.specs.Bytes.{leValue};
+ghost use Rattle.octets.specs.Place.{area};
+ghost use Rattle.octets.specs.Maybe.{isNone};
+ghost use Rattle.decimal.specs.Integer.{patternOf};
+ghost use Rattle.listpack.specs.Width.{extend, halfOf};
+ghost use Rattle.listpack.specs.Read.{backAt, closeInteger, textStands, asText, tagWidth, readWide, readElement};
+use crate::Element;
+use crate::form::HALF_SHORT;
+use crate::form::back_size;
+use crate::form::body_size;
+use crate::form::extend;
+use crate::form::half_of;
+use crate::form::head_size;
+use decimal::Recognised;
+
+fn back_at(n: usize, s: &[u8]) -> bool
+    requires { ⌜ n < 16384 ⌝ }
+    ensures { λ r. ⌜ r ≡ backAt n (now (s .entry)) ⌝ }
+{
+    if n < 128 {
+        if s.len() <= n {
+            return false;
+        }
+        return octets::wide(s[n]) == n as u64;
+    }
+    if s.len() <= n + 1 {
+        return false;
+    }
+    if octets::wide(s[n]) != (n / 128) as u64 {
+        return false;
+    }
+    octets::wide(s[n + 1]) == (128 + n % 128) as u64
+}
+
+fn close_integer(s: &[u8], p: u64, n: usize) -> Element
+    requires { ⌜ n ≤ 9 ⌝ }
+    ensures { λ r. ⌜ r ≡ closeInteger (now (s .entry)) p n ⌝ }
+{
+    if body_size(p) != n {
+        return Element::Bad;
+    }
+    if back_at(n, s) {
+        return Element::Integer {
+            pattern: p,
+            size: n + back_size(n),
+        };
+    }
+    Element::Bad
+}
+
+// The string is no integer.
+fn is_text(s: &[u8]) -> bool
+    ensures { λ r. ⌜ r ≡ isNone (patternOf (now (s .entry))) ⌝ }
+{
+    let found = decimal::recognise(s);
+    match found {
+        Recognised::Integer(_) => false,
+        Recognised::Other => true,
+    }
+}
+
+// Whether it is an integer is asked last, since that looks at every digit.
+fn text_stands(s: &[u8], at: usize, l: usize) -> bool
+    requires { ⌜ (at ≤ 2) × (l < 4096) ⌝ }
+    ensures { λ r. ⌜ r ≡ textStands (now (s .entry)) at l ⌝ }
+{
+    if head_size(l) != at {
+        return false;
+    }
+    let n = at + l;
+    if back_at(n, s) {
+        return is_text(&s[at..n]);
+    }
+    false
+}
+
+fn as_text(at: usize, l: usize, stands: bool) -> Element
+    requires { ⌜ (at ≤ 2) × (l < 4096) ⌝ }
+    ensures { λ r. ⌜ r ≡ asText at l stands ⌝ }
+{
+    if stands {
+        let n = at + l;
+        return Element::Text {
+            start: at,
+            len: l,
+            size: n + back_size(n),
+        };
+    }
+    Element::Bad
+}
+
+// F1 to F4; 0 for a byte that has no form.
+fn tag_width(b: u64) -> usize
+    ensures { λ r. ⌜ r ≡ tagWidth b ⌝ }
+{
+    if b == 241 {
+        return 2;
+    }
+    if b == 242 {
+        return 3;
+    }
+    if b == 243 {
+        return 4;
+    }
+    if b == 244 {
+        return 8;
+    }
+    0
+}
+
+// The number in the w bytes after the first.
+fn wide_value(s: &[u8], w: usize) -> u64
+    requires { ⌜ (1 ≤ w) × (w ≤ 8) × (w < length (now s)) ⌝ }
+    ensures { λ r. ⌜ r ≡ extend (halfOf w) (leValue (area 1 w (now (s .entry)))) ⌝ }
+{
+    extend(half_of(w), octets::read_le(s, 1, w))
+}
+
+fn read_wide(s: &[u8], w: usize) -> Element
+    requires { ⌜ w ≤ 8 ⌝ }
+    ensures { λ r. ⌜ r ≡ readWide w (now (s .entry)) ⌝ }
+{
+    if w == 0 {
+        return Element::Bad;
+    }
+    if s.len() <= w {
+        return Element::Bad;
+    }
+    close_integer(s, wide_value(s, w), 1 + w)
+}
+
+// The element at the start of s, by its first byte.
+pub fn read_element(s: &[u8]) -> Element
+    ensures { λ r. ⌜ r ≡ readElement (now (s .entry)) ⌝ }
+{
+    if s.len() < 2 {
+        return Element::Bad;
+    }
+    let b = octets::wide(s[0]);
+    if b < 128 {
+        return close_integer(s, b, 1);
+    }
+    if b < 192 {
+        let l = (b - 128) as usize;
+        return as_text(1, l, text_stands(s, 1, l));
+    }
+    let c = octets::wide(s[1]);
+    if b < 224 {
+        return close_integer(s, extend(HALF_SHORT, 256 * (b - 192) + c), 2);
+    }
+    if b < 240 {
+        let l = (256 * (b - 224) + c) as usize;
+        return as_text(2, l, text_stands(s, 2, l));
+    }
+    read_wide(s, tag_width(b))
+}
