@@ -32,6 +32,19 @@ pub fn hex(s: &[u8], separator: &[u8]) {
     }
 }
 
+// The element of a string, if it has one, without its first `skipped` bytes.
+pub fn element(s: &[u8], skipped: usize, separator: &[u8]) {
+    if 4095 < s.len() {
+        return;
+    }
+    let mut d = [0u8; 4200];
+    let n = listpack::write_string(&mut d, 0, s);
+    if n < skipped {
+        return;
+    }
+    hex(&d[skipped..n], separator);
+}
+
 // A label, and a space and two digits for each byte, on a line.
 pub fn line(label: &[u8], s: &[u8]) {
     text(label);
