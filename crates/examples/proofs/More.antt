@@ -23,9 +23,9 @@ use Rattle.id.specs.Difference.{differenceOf, rebuiltOf}
 use Rattle.id.specs.Id.{idOrder, followingOf}
 use Rattle.decimal.specs.Integer.{digitsAfter, positiveOf, unsignedOf, negativeOf, signedOf, patternOf}
 use Rattle.decimal.specs.Text.{digitsOf, naturalText, textOf}
-use Rattle.listpack.specs.Element.{itemOf, integerBody, textHead, backLength, encodeItem, element, elementSize}
+use Rattle.listpack.specs.Element.{itemOf, integerBody, textHead, backLength, encodeItem, element, textSize, elementSize}
 use Rattle.listpack.specs.Listpack as Listpack
-use Rattle.listpack.specs.Read.{wideAt, bodyAt, backAt, strict, readElement, parse, parseMany, parseListpack}
+use Rattle.listpack.specs.Read.{backAt, closeInteger, textStands, asText, closeText, tagWidth, readWide, readBy, readElement, parse, parseMany, parseListpack}
 use Rattle.listpack.specs.Width.{fits, narrow, extend}
 use Rattle.node.specs.Bytes.{masterStrings, pairStrings, entryStrings, entriesStrings, nodeStrings, nodeBytes, nodeSize, slotOf}
 use Rattle.node.specs.Message.{areStrings, arePairs, isMessage, sameStrings, liveIn, liveCount, deletedCount}
@@ -228,7 +228,7 @@ pub record Computed : Type 0 where
       ∷ Indexed.found (Index.entry a 2) ∷ Indexed.removed 1 ∷ Indexed.removed 0 ∷ Indexed.nothing ∷ []
 
 pub computed : Computed
-unfolding Index.firstFrom Index.insert Index.lastUpTo Index.lookup Index.without Indexed.putTo Indexed.removeFrom Indexed.replies aged asks refusals series table wide le leValue be beFrom beValue allZero same orderOf area put spliced takeBytes idBytes idFrom differenceOf rebuiltOf idOrder followingOf digitsAfter positiveOf unsignedOf negativeOf signedOf patternOf digitsOf naturalText textOf itemOf integerBody textHead backLength encodeItem element elementSize Listpack.elements Listpack.header Listpack.listpack wideAt bodyAt backAt strict readElement parse parseMany parseListpack fits narrow extend masterStrings pairStrings entryStrings entriesStrings nodeStrings nodeBytes nodeSize slotOf areStrings arePairs isMessage sameStrings liveIn liveCount deletedCount readNumber readExactly readStrings readValues readPairs readEntry readEntries parseStrings parseNode parseSlot risingFrom areMessages isNode slipPairs slip cutString parsePairs parseSlip NodeStep.append NodeStep.takes NodeStep.fitsAlone NodeStep.markDeleted NodeStep.markOldest NodeStep.findMessage NodeStep.firstFrom NodeStep.valueOf areGroups isGroups regions areaBytes parseRegions parseArea placeOf pendingBytes allPending allNames bodyBytes allNameFields regionBytes areNames namesAbove risingNames isAmong pendingAbove pendingUpTo isPending arePending isGroup parseNameField parseNameFields parsePending parseAllPending parseRegion takeName takeNames parseBody Groups.withName Groups.withoutName Groups.findPending Groups.putPending Groups.withoutPending Groups.pendingOf Groups.pendingOfOthers Groups.firstAbove Groups.deliver Groups.acknowledge Groups.claim Groups.nextPending Groups.dropConsumer Groups.findGroup Groups.putGroup Groups.withoutGroup Cut.entriesOf Cut.isTaken Cut.areNodes Cut.allUpTo Cut.isModel Cut.freeFrom Cut.lowestFree Cut.highestTakes Cut.addTo Cut.addMessage Cut.lacksSlot Cut.freed Cut.markInNodes Cut.deleteMessage Cut.markOldestInNodes Cut.deleteOldest Cut.addAll Cut.freshCut nodeOf nodesOf freeZero imageFrom messagesAbove isLedger onSetUp addAs clockId withoutMessage onTrim onCreate lacksConsumer firstAfter drops run answers step partsOf contents bodies fileOf snapshotOf saveReply loads takeParts parseFile readNode readParts parseSnapshot
+unfolding Index.firstFrom Index.insert Index.lastUpTo Index.lookup Index.without Indexed.putTo Indexed.removeFrom Indexed.replies aged asks refusals series table wide le leValue be beFrom beValue allZero same orderOf area put spliced takeBytes idBytes idFrom differenceOf rebuiltOf idOrder followingOf digitsAfter positiveOf unsignedOf negativeOf signedOf patternOf digitsOf naturalText textOf itemOf integerBody textHead backLength encodeItem element textSize elementSize Listpack.elements Listpack.header Listpack.listpack backAt closeInteger textStands asText closeText tagWidth readWide readBy readElement parse parseMany parseListpack fits narrow extend masterStrings pairStrings entryStrings entriesStrings nodeStrings nodeBytes nodeSize slotOf areStrings arePairs isMessage sameStrings liveIn liveCount deletedCount readNumber readExactly readStrings readValues readPairs readEntry readEntries parseStrings parseNode parseSlot risingFrom areMessages isNode slipPairs slip cutString parsePairs parseSlip NodeStep.append NodeStep.takes NodeStep.fitsAlone NodeStep.markDeleted NodeStep.markOldest NodeStep.findMessage NodeStep.firstFrom NodeStep.valueOf areGroups isGroups regions areaBytes parseRegions parseArea placeOf pendingBytes allPending allNames bodyBytes allNameFields regionBytes areNames namesAbove risingNames isAmong pendingAbove pendingUpTo isPending arePending isGroup parseNameField parseNameFields parsePending parseAllPending parseRegion takeName takeNames parseBody Groups.withName Groups.withoutName Groups.findPending Groups.putPending Groups.withoutPending Groups.pendingOf Groups.pendingOfOthers Groups.firstAbove Groups.deliver Groups.acknowledge Groups.claim Groups.nextPending Groups.dropConsumer Groups.findGroup Groups.putGroup Groups.withoutGroup Cut.entriesOf Cut.isTaken Cut.areNodes Cut.allUpTo Cut.isModel Cut.freeFrom Cut.lowestFree Cut.highestTakes Cut.addTo Cut.addMessage Cut.lacksSlot Cut.freed Cut.markInNodes Cut.deleteMessage Cut.markOldestInNodes Cut.deleteOldest Cut.addAll Cut.freshCut nodeOf nodesOf freeZero imageFrom messagesAbove isLedger onSetUp addAs clockId withoutMessage onTrim onCreate lacksConsumer firstAfter drops run answers step partsOf contents bodies fileOf snapshotOf saveReply loads takeParts parseFile readNode readParts parseSnapshot
 computed =
     record {
       written = refl;

@@ -5,9 +5,9 @@ use Rattle.listpack.proofs.read.tag_width.Statement.{statement}
 use Rattle.listpack.proofs.read.tag_width.Tie as tie
 
 pub tag-width-spec : {M : Type 1} → statement M
-tag-width-spec = tie.close (tie.spec 
-    (λ c. sym (tag-16 _ (omega arith))) 
-    (λ c. sym (tag-24 _ (omega arith) (omega arith))) 
-    (λ c. sym (tag-32 _ (omega arith) (omega arith) (omega arith))) 
-    (λ c. sym (tag-64 _ (omega arith) (omega arith) (omega arith) (omega arith))) 
+tag-width-spec = tie.close (tie.spec
+    (λ c. sym (tag-16 _ (omega arith)))
+    (λ c. sym (tag-24 _ (omega arith) (omega arith)))
+    (λ c. sym (tag-32 _ (omega arith) (omega arith) (omega arith)))
+    (λ c. sym (tag-64 _ (omega arith) (omega arith) (omega arith) (omega arith)))
     (λ c. sym (tag-none _ (omega arith) (omega arith) (omega arith) (omega arith))))
