@@ -2,3 +2,11 @@
 pub mod Entries
 pub mod Operation
 pub mod Shape
+pub mod Canon
+pub mod Record
+pub mod Table
+pub mod Layout
+pub mod Rows
+pub mod Answer
+pub mod Walk
+pub mod Rank
