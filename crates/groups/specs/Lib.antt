@@ -4,3 +4,4 @@ pub mod Bytes
 pub mod Parse
 pub mod Area
 pub mod Step
+pub mod Answer

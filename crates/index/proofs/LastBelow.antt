@@ -43,24 +43,32 @@ last-parts : (k : List ℕ) (v : Option ℕ) (xs ys : List Entry) (best : Option
 last-parts k v xs ys best =
     last-append (ownEntry k v) (xs ++ ys) best ∙ last-append xs ys (lastOf (ownEntry k v) best) ∙ ap (λ (o : Option Entry). lastOf ys (lastOf xs o)) (last-own k v best)
 
-greatest-node : {first : Bool} {least : ℕ} (before l : List ℕ) (v : Option ℕ) (below : Shape) {later : Shape} (best : Option Entry) → Rules first least later
-    → greatestIn (before ++ l) below (orElse (ownOf (before ++ l) v) best) ≡ lastOf (entriesIn (before ++ l) below) (orElse (ownOf (before ++ l) v) best)
-    → greatestIn before later best ≡ lastOf (entriesIn before later) best
-    → greatestIn before (node l v below later) best ≡ lastOf (entriesIn before (node l v below later)) best
+greatest-node : (before l : List ℕ) (v : Option ℕ) {below : Shape} → Rules true 0 below → greatestIn (before ++ l) below ≡ lastOf (entriesIn (before ++ l) below) none
+    → greatestIn before (node l v below nil) ≡ lastOf (entriesIn (before ++ l) below) (ownOf (before ++ l) v)
 unfolding greatestIn entriesIn
-greatest-node before l v below {later = nil} best r p q = p ∙ sym (last-parts (before ++ l) v (entriesIn (before ++ l) below) [] best)
-greatest-node before l v below {later = node l′ v′ below′ later} best r p q =
-    q
-    ∙ last-some (entriesIn before (node l′ v′ below′ later)) best (lastOf (entriesIn (before ++ l) below) (orElse (ownOf (before ++ l) v) best)) (some-at before r refl)
-    ∙ sym (last-parts (before ++ l) v (entriesIn (before ++ l) below) (entriesIn before (node l′ v′ below′ later)) best)
+greatest-node before l v {below = nil} b p = refl
+greatest-node before l v {below = node m w deeper later} b p = p ∙ last-some (entriesIn (before ++ l) (node m w deeper later)) none (ownOf (before ++ l) v) (some-at (before ++ l) b refl)
 
-greatest-last : {first : Bool} {least : ℕ} (before : List ℕ) {s : Shape} → Rules first least s → (best : Option Entry) → greatestIn before s best ≡ lastOf (entriesIn before s) best
+-- beside later siblings
+greatest-beside : {first : Bool} {least : ℕ} (before l : List ℕ) (v : Option ℕ) {below later : Shape} → Rules true 0 below → Rules first least later
+    → greatestIn (before ++ l) below ≡ lastOf (entriesIn (before ++ l) below) none → greatestIn before later ≡ lastOf (entriesIn before later) none
+    → greatestIn before (node l v below later) ≡ lastOf (entriesIn before (node l v below later)) none
 unfolding greatestIn entriesIn
-greatest-last before leaf best = refl
-greatest-last before (only {a = a} {l = l} {v = v} {below = below} e b) best =
-    greatest-node {first = true} {least = 0} before (a ∷ l) v below best leaf (greatest-last (before ++ (a ∷ l)) b (orElse (ownOf (before ++ (a ∷ l)) v) best)) refl
-greatest-last before (oneOf {a = a} {v = v} {below = below} {later = later} n h e b m) best =
-    greatest-node before (a ∷ []) v below best m (greatest-last (before ++ (a ∷ [])) b (orElse (ownOf (before ++ (a ∷ [])) v) best)) (greatest-last before m best)
+greatest-beside before l v {below} {later = nil} b r p q =
+    greatest-node before l v b p
+    ∙ sym (last-parts (before ++ l) v (entriesIn (before ++ l) below) [] none ∙ ap (lastOf (entriesIn (before ++ l) below)) (or-none (ownOf (before ++ l) v)))
+greatest-beside before l v {below} {later = node m w deeper later} b r p q =
+    q
+    ∙ last-some (entriesIn before (node m w deeper later)) none (lastOf (entriesIn (before ++ l) below) (orElse (ownOf (before ++ l) v) none)) (some-at before r refl)
+    ∙ sym (last-parts (before ++ l) v (entriesIn (before ++ l) below) (entriesIn before (node m w deeper later)) none)
+
+greatest-last : {first : Bool} {least : ℕ} (before : List ℕ) {s : Shape} → Rules first least s → greatestIn before s ≡ lastOf (entriesIn before s) none
+unfolding greatestIn entriesIn
+greatest-last before leaf = refl
+greatest-last before (only {a = a} {l = l} {v = v} e b) =
+    greatest-beside {first = true} {least = 0} before (a ∷ l) v b leaf (greatest-last (before ++ (a ∷ l)) b) refl
+greatest-last before (oneOf {a = a} {v = v} n h e b m) =
+    greatest-beside before (a ∷ []) v b m (greatest-last (before ++ (a ∷ [])) b) (greatest-last before m)
 
 -- a node that holds a key needs nothing from before
 held-last : (k : List ℕ) (v : Option ℕ) {below : Shape} (best : Option Entry) → isHeld v below ≡ true → Rules true 0 below
@@ -130,7 +138,7 @@ module _ (before : List ℕ) (a : ℕ) (l : List ℕ) (v : Option ℕ) (below la
 
   -- the node and what stands below it is below the key
   last-past : (k : List ℕ) (best : Option Entry) → comesBefore k (a ∷ l) ≡ false → startsWith (a ∷ l) k ≡ false
-      → orElse (lastUpTo (before ++ k) (entriesIn before later)) (greatestIn (before ++ (a ∷ l)) below (ownOf (before ++ (a ∷ l)) v))
+      → orElse (lastUpTo (before ++ k) (entriesIn before later)) (greatestIn before (node (a ∷ l) v below nil))
       ≡ orElse (lastUpTo (before ++ k) (entriesIn before (node (a ∷ l) v below later))) best
   last-past k best n s =
       let lab = before ++ (a ∷ l) in
@@ -138,7 +146,7 @@ module _ (before : List ℕ) (a : ℕ) (l : List ℕ) (v : Option ℕ) (below la
       let c = entriesIn lab below in
       let d = entriesIn before later in
       ap (orElse (lastUpTo (before ++ k) d))
-      (greatest-last lab b (ownOf lab v)
+      (greatest-node before (a ∷ l) v b (greatest-last lab b)
       ∙ held-last lab v best h b
       ∙ ap (lastOf c) (sym (last-own lab v best))
       ∙ sym (last-append (ownEntry lab v) c best)
@@ -153,14 +161,14 @@ module _ (before : List ℕ) (a : ℕ) (l : List ℕ) (v : Option ℕ) (below la
       go : (t u : Bool) → comesBefore k (a ∷ l) ≡ t → startsWith (a ∷ l) k ≡ u
           → pick t best
           (pick u (seekLast (before ++ (a ∷ l)) below (drop (length (a ∷ l)) k) (orElse (ownOf (before ++ (a ∷ l)) v) best))
-          (seekLast before later k (greatestIn (before ++ (a ∷ l)) below (ownOf (before ++ (a ∷ l)) v))))
+          (seekLast before later k (greatestIn before (node (a ∷ l) v below nil))))
           ≡ orElse (lastUpTo (before ++ k) (entriesIn before (node (a ∷ l) v below later))) best
       go true u n s = ap (λ (o : Option Entry). orElse o best) (sym (last-at k n))
       go false true n s =
           let e = starts-split (a ∷ l) k s in
           last-into (drop (length (a ∷ l)) k) best (ap (λ (z : List ℕ). comesBefore z (a ∷ l)) (sym e) ∙ n) (rules-from m) p
           ∙ ap (λ (z : List ℕ). orElse (lastUpTo (before ++ z) (entriesIn before (node (a ∷ l) v below later))) best) (sym e)
-      go false false n s = q k (greatestIn (before ++ (a ∷ l)) below (ownOf (before ++ (a ∷ l)) v)) ∙ last-past k best n s
+      go false false n s = q k (greatestIn before (node (a ∷ l) v below nil)) ∙ last-past k best n s
 
 pub rules-last : {first : Bool} {least : ℕ} (before : List ℕ) {s : Shape} → Rules first least s → Seeks before s
 unfolding seekLast entriesIn lastUpTo

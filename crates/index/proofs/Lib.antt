@@ -22,6 +22,10 @@ pub mod Maps
 pub mod Positions
 pub mod Kept
 pub mod Nearest
+pub mod Beside
+pub mod Stops
+pub mod Paths
+pub mod Uncut
 pub mod Tidy
 pub mod Whole
 pub mod Listing
@@ -34,3 +38,4 @@ pub mod Built
 pub mod Cells
 pub mod Readback
 pub mod Laws
+pub mod Steps

@@ -67,13 +67,16 @@ module _ (x : Index) (p : isPlaced x ≡ true) (q first : ℕ) (e : q ≡ x .roo
     pub not-kept : t ≡ false → none ≡ entriesOf x
     not-kept z = entries (not-canonical (treeOf x) (kept ∙ z))
 
-    module _ (z : t ≡ true) (o : Option (List Entry)) (c : Columns) (g : o ≡ gathered [] (treeAt 256 (nodesOf x) first) (rowsFrom c 0 0)) where
-      got : gathered [] (treeOf x) [] ≡ o
-      unfolding rowsFrom
-      got = rw (← tree) (sym g)
+    module _ (z : t ≡ true) (l : Listed) (g : listedOf l ≡ gathered [] (treeOf x) []) where
+      go : (o : Option (List Entry)) → gathered [] (treeOf x) [] ≡ o → o ≡ entriesOf x
+      go none w = entries (not-gathered (treeOf x) w)
+      go (some es) w = entries (is-gathered (treeOf x) es (kept ∙ z) w)
 
-      pub not-listed : o ≡ none → none ≡ entriesOf x
-      not-listed w = entries (not-gathered (treeOf x) (got ∙ w))
+      pub is-listed : listedOf l ≡ entriesOf x
+      is-listed = g ∙ go (gathered [] (treeOf x) []) refl
 
-      pub is-listed : (es : List Entry) → o ≡ some es → some es ≡ entriesOf x
-      is-listed es w = entries (is-gathered (treeOf x) es (kept ∙ z) (got ∙ w))
+-- the tree's entries
+pub tree-listed : (x : Index) (q first : ℕ) (o : Option (List Entry)) (c : Columns) → q ≡ x .root → first ≡ getD (x .child) q 0
+    → o ≡ gathered [] (treeAt 256 (nodesOf x) first) (rowsFrom c 0 0) → o ≡ gathered [] (treeOf x) []
+unfolding rowsFrom
+tree-listed x q first o c e f g = g ∙ rw (f, e)

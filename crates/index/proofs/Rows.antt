@@ -1,7 +1,7 @@
 -- Rows of a table: how many, which, and one more. Assumes nothing.
 use mathlib.Core.Bool.{Bool, true, false}
 use mathlib.Core.Path.{_≡_, refl, sym, ap, ap₂, _∙_}
-use mathlib.Core.List.{List, [], _∷_, _++_}
+use mathlib.Core.List.{List, [], _∷_, _++_, append-assoc}
 use mathlib.Core.Option.{Option, some, none}
 use Prim.Native.Nat.{ℕ, zero, suc, _+_, _*_, _-_, _≤_, _<_, _^_, min}
 use native.Mathlib.Nat.{add-zero, zero-add}
@@ -9,14 +9,16 @@ use native.Mathlib.Numerals.{add-one}
 use native.Mathlib.Omega.{arith}
 use borrow.Author.Tests.{eq-eqb, ne-eqb, lt-ltb, le-ltb}
 use lib.Dec.{eqb}
-use lib.ListN.{length, getD, set}
+use lib.ListN.{length, getD, set, take, drop}
 use Rattle.octets.specs.Pick.{pick}
 use lib.Seq.{getD-set-same, getD-set-other}
 use Rattle.octets.specs.Place.{area, put}
 use Rattle.octets.proofs.Laws.{area-before, area-put-at}
-use Rattle.index.specs.Entries.{Entry, entry}
+use Rattle.index.specs.Entries.{Entry, entry, comesBefore}
+use Rattle.index.specs.Rank.{rank}
 use Rattle.index.specs.Record.{lengthOf}
 use Rattle.index.specs.Table.{Columns, columns, rowAt, rowsFrom, withOwn}
+use Rattle.index.proofs.Positions.{rank-before, rank-not}
 
 pub length-rows : (t : Columns) (i n : ℕ) → length (rowsFrom t i n) ≡ n
 unfolding rowsFrom
@@ -77,3 +79,74 @@ module _ (k : List ℕ) (f v : ℕ) (t : Columns) (n : ℕ) where
   pub own-added : (f ≡ 0 → ⊥) → n < 64 → v < 2 ^ 32 → (u : Columns) → rowsFrom u 0 (n + 1) ≡ rowsFrom t 0 n ++ (entry k v ∷ [])
       → some (rowsFrom u 0 (n + 1)) ≡ withOwn k (pick (eqb f 0) none (some v)) (rowsFrom t 0 n)
   own-added z h w u e = rw (ne-eqb f 0 z, length-rows t 0 n, lt-ltb n 64 h, lt-ltb v (2 ^ 32) w, e)
+
+-- the first row, and the others
+pub rows-first : (t : Columns) (i b : ℕ) → i < b → rowsFrom t i (b - i) ≡ rowAt t i ∷ rowsFrom t (i + 1) (b - (i + 1))
+unfolding rowsFrom
+rows-first t i b h = let e : b - i ≡ suc (b - (i + 1)) = omega arith in ap (rowsFrom t i) e
+
+pub rows-none : (t : Columns) (i n : ℕ) → n ≡ 0 → rowsFrom t i n ≡ []
+unfolding rowsFrom
+rows-none t i n e = ap (rowsFrom t i) e
+
+pub rows-take : (t : Columns) (c i n : ℕ) → c ≤ n → take c (rowsFrom t i n) ≡ rowsFrom t i c
+unfolding rowsFrom
+rows-take t zero i n h = refl
+rows-take t (suc c) i zero h = absurd (omega arith)
+rows-take t (suc c) i (suc n) h = ap (λ (es : List Entry). rowAt t i ∷ es) (rows-take t c (i + 1) n (omega arith))
+
+pub rows-drop : (t : Columns) (c i n : ℕ) → c ≤ n → drop c (rowsFrom t i n) ≡ rowsFrom t (i + c) (n - c)
+unfolding rowsFrom
+rows-drop t zero i n h = let e : n - 0 ≡ n = omega arith in rw (add-zero, e)
+rows-drop t (suc c) i zero h = absurd (omega arith)
+rows-drop t (suc c) i (suc n) h =
+    let e : i + 1 + c ≡ i + suc c = omega arith in
+    let f : suc n - suc c ≡ n - c = omega arith in
+    rows-drop t c (i + 1) n (omega arith) ∙ ap₂ (λ (j k : ℕ). rowsFrom t j k) e (sym f)
+
+pub rows-get : (t : Columns) (c i n : ℕ) (d : Entry) → c < n → getD (rowsFrom t i n) c d ≡ rowAt t (i + c)
+unfolding rowsFrom
+rows-get t zero i zero d h = absurd (omega arith)
+rows-get t zero i (suc n) d h = rw add-zero
+rows-get t (suc c) i zero d h = absurd (omega arith)
+rows-get t (suc c) i (suc n) d h = let e : i + 1 + c ≡ i + suc c = omega arith in rows-get t c (i + 1) n d (omega arith) ∙ ap (rowAt t) e
+
+-- one row copied
+pub copied : (t : Columns) (i b : ℕ) (xs ys zs : List Entry) (k : List ℕ) (v : ℕ) → i < b → k ≡ area (16 * i) (lengthOf (t .len) i) (t .key) → v ≡ getD (t .val) i 0
+    → ys ≡ xs ++ (entry k v ∷ []) → xs ++ rowsFrom t i (b - i) ≡ zs → ys ++ rowsFrom t (i + 1) (b - (i + 1)) ≡ zs
+copied t i b xs ys zs k v h ek ev e f =
+    let r = rowsFrom t (i + 1) (b - (i + 1)) in
+    ap (λ (l : List Entry). l ++ r) (e ∙ ap₂ (λ (a : List ℕ) (c : ℕ). xs ++ (entry a c ∷ [])) ek ev)
+    ∙ append-assoc xs (rowAt t i ∷ []) r
+    ∙ ap (λ (l : List Entry). xs ++ l) (sym (rows-first t i b h))
+    ∙ f
+
+-- a key's place among the rows
+module _ (t : Columns) (k : List ℕ) (i n : ℕ) (b : Bool) (h : i < n) (e : b ≡ comesBefore (area (16 * i) (lengthOf (t .len) i) (t .key)) k) where
+  pub rank-stop : b ≡ false → i ≡ i + rank k (rowsFrom t i (n - i))
+  rank-stop f = let z = ap (rank k) (rows-first t i n h) ∙ rank-not k (rowAt t i) _ (sym e ∙ f) in omega arith
+
+  pub rank-more : b ≡ true → i + 1 + rank k (rowsFrom t (i + 1) (n - (i + 1))) ≡ i + rank k (rowsFrom t i (n - i))
+  rank-more f = let z = ap (rank k) (rows-first t i n h) ∙ rank-before k (rowAt t i) _ (sym e ∙ f) in omega arith
+
+pub rank-end : (t : Columns) (k : List ℕ) (i n : ℕ) → n ≡ 0 → i ≡ i + rank k (rowsFrom t i n)
+unfolding rank
+rank-end t k i n e = let z = ap (rank k) (rows-none t i n e) in omega arith
+
+-- the first r rows, a new one, and those from s on
+module _ (t : Columns) (n r s : ℕ) (h : r ≤ n) (k : s ≤ n) where
+  front : {xs os : List Entry} → os ≡ [] → xs ≡ os ++ rowsFrom t 0 (r - 0) → xs ≡ take r (rowsFrom t 0 n)
+  front o e =
+      e ∙ ap (λ (l : List Entry). l ++ rowsFrom t 0 (r - 0)) o ∙ ap (rowsFrom t 0) (let z : r - 0 ≡ r = omega arith in z) ∙ sym (rows-take t r 0 n h)
+
+  behind : rowsFrom t s (n - s) ≡ drop s (rowsFrom t 0 n)
+  behind = sym (rows-drop t s 0 n k ∙ ap (λ (i : ℕ). rowsFrom t i (n - s)) (zero-add s))
+
+  pub rows-with : {os xs ys zs : List Entry} (e : Entry) → os ≡ [] → xs ≡ os ++ rowsFrom t 0 (r - 0) → ys ≡ xs ++ (e ∷ []) → zs ≡ ys ++ rowsFrom t s (n - s)
+      → zs ≡ take r (rowsFrom t 0 n) ++ (e ∷ drop s (rowsFrom t 0 n))
+  rows-with e o p q w =
+      w ∙ ap₂ _++_ (q ∙ ap (λ (l : List Entry). l ++ (e ∷ [])) (front o p)) behind ∙ append-assoc (take r (rowsFrom t 0 n)) (e ∷ []) (drop s (rowsFrom t 0 n))
+
+  pub rows-without : {os xs zs : List Entry} → os ≡ [] → xs ≡ os ++ rowsFrom t 0 (r - 0) → zs ≡ xs ++ rowsFrom t s (n - s)
+      → zs ≡ take r (rowsFrom t 0 n) ++ drop s (rowsFrom t 0 n)
+  rows-without o p w = w ∙ ap₂ _++_ (front o p) behind

@@ -6,11 +6,14 @@ use Prim.Native.Nat.{ℕ, _≤_}
 use lib.ListN.{length}
 use mathlib.Core.List.{List}
 use Rattle.index.specs.Entries.{Entry}
+use Rattle.index.specs.Operation.{Reply, refused, done, removed, value, nothing}
 use Rattle.index.specs.Table.{Columns, columns, rowsFrom}
 use Rattle.index.specs.declared.Found.{Found}
 use Rattle.index.specs.declared.Found.the-variants.{Value, Nothing}
 use Rattle.index.specs.declared.Table.{Table}
 use Rattle.index.specs.declared.Listed.{Listed}
+use Rattle.index.specs.declared.Answer.{Answer}
+use Rattle.index.specs.declared.Answer.the-variants.{Done, Removed, Held, Absent, Refused}
 use Rattle.index.specs.declared.Gathered.{Gathered}
 use Rattle.index.specs.declared.Gathered.the-variants.{Rows, TooMany}
 
@@ -22,6 +25,14 @@ foundOf (Value v) = some v
 abbrev pub ifSo : {A : Type 0} → Bool → A → Option A
 ifSo true a = some a
 ifSo false a = none
+
+-- an answer in the terms of specs/
+abbrev pub replyOf : Answer → Reply
+replyOf Done = done
+replyOf (Removed n) = removed n
+replyOf (Held v) = value v
+replyOf Absent = nothing
+replyOf (Refused n) = refused n
 
 -- rows gathered into columns
 abbrev pub rowsOf : Gathered → Columns → Option (List Entry)

@@ -10,3 +10,5 @@ pub mod Rows
 pub mod Answer
 pub mod Walk
 pub mod Rank
+pub mod Neighbours
+pub mod Promise

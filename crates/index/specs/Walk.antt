@@ -48,11 +48,11 @@ seekFirst before (node label v below later) k above =
 unfoldable pub firstIn : List ℕ → Shape → List ℕ → Option Entry
 firstIn before s k = seekFirst before s k none
 
--- the last entry: by last children down to a node that has none; `best` is what stands last before
-unfoldable pub greatestIn : List ℕ → Shape → Option Entry → Option Entry
-greatestIn before nil best = best
-greatestIn before (node label v below later) best =
-    pick (isNil later) (greatestIn (before ++ label) below (orElse (ownOf (before ++ label) v) best)) (greatestIn before later best)
+-- the last entry: by last children down to a node that has none
+unfoldable pub greatestIn : List ℕ → Shape → Option Entry
+greatestIn before nil = none
+greatestIn before (node label v below later) =
+    pick (isNil later) (pick (isNil below) (ownOf (before ++ label) v) (greatestIn (before ++ label) below)) (greatestIn before later)
 
 -- the last key at or below: a label that the key comes before ends the walk; one that the key starts with has it among its children, or
 -- else at its node, or else in what stands last before; any other is passed, and its last entry is the best so far
@@ -61,7 +61,7 @@ seekLast before nil k best = best
 seekLast before (node label v below later) k best =
     pick (comesBefore k label) best
     (pick (startsWith label k) (seekLast (before ++ label) below (drop (length label) k) (orElse (ownOf (before ++ label) v) best))
-    (seekLast before later k (greatestIn (before ++ label) below (ownOf (before ++ label) v))))
+    (seekLast before later k (greatestIn before (node label v below nil))))
 
 unfoldable pub lastIn : List ℕ → Shape → List ℕ → Option Entry
 lastIn before s k = seekLast before s k none

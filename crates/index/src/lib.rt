@@ -4,8 +4,13 @@ mod build;
 mod gather;
 mod judge;
 mod list;
+mod near;
+mod operation;
 mod pool;
+mod row;
 mod seek;
+
+pub use near::Near;
 
 // The record, drawn in specs/Record.antt.
 pub struct Index {
@@ -42,4 +47,19 @@ pub struct Table {
 pub struct Listed {
     pub ok: bool,
     pub table: Table,
+}
+
+// What an operation answers.
+pub enum Answer {
+    Done,
+    Removed(u32),
+    Held(u32),
+    Absent,
+    Refused(u32),
+}
+
+// An answer, and the record after it.
+pub struct Changed {
+    pub answer: Answer,
+    pub index: Index,
 }

@@ -2,10 +2,11 @@
 
 ghost use mathlib.Core.Path.{_≡_};
 ghost use mathlib.Core.Bool.{false};
-ghost use mathlib.Core.List.{List};
+ghost use mathlib.Core.List.{List, []};
 ghost use Prim.Native.Nat.{ℕ, _<_};
 ghost use lib.ListN.{getD};
-ghost use Rattle.index.specs.Record.{nodesOf, lent, isRoot, isPlaced, entriesOf};
+ghost use Rattle.index.specs.Record.{nodesOf, lent, isRoot, isPlaced, treeOf, entriesOf};
+ghost use Rattle.index.specs.Table.{gathered};
 ghost use Rattle.index.specs.Answer.{listedOf};
 use crate::Gathered;
 use crate::Index;
@@ -65,28 +66,13 @@ fn unlisted() -> Listed
     Listed { ok: false, table }
 }
 
-// The entries of a record.
-pub fn list(x: Index) -> Listed
-    ensures { λ r. ⌜ listedOf r ≡ entriesOf x ⌝ }
+// The entries of a record's tree, where they fit a table.
+pub fn table_of(x: Index) -> Listed
+    requires { ⌜ x .root < 256 ⌝ }
+    ensures { λ r. ⌜ listedOf r ≡ gathered [] (treeOf x) [] ⌝ }
 {
-    if !placed(x) {
-        return unlisted();
-    }
     let root = wide_link(x.root);
     let first = link_at(&x.child, root);
-    if !keeps(
-        &x.len,
-        &x.key,
-        &x.child,
-        &x.next,
-        &x.label,
-        256,
-        first,
-        true,
-        0,
-    ) {
-        return unlisted();
-    }
     let mut len = [0u8; 64];
     let mut val = [0u32; 64];
     let mut key = [0u8; 1024];
@@ -110,4 +96,29 @@ pub fn list(x: Index) -> Listed
     };
     let table = Table { n, len, val, key };
     Listed { ok: true, table }
+}
+
+// The entries of a record.
+pub fn list(x: Index) -> Listed
+    ensures { λ r. ⌜ listedOf r ≡ entriesOf x ⌝ }
+{
+    if !placed(x) {
+        return unlisted();
+    }
+    let root = wide_link(x.root);
+    let first = link_at(&x.child, root);
+    if !keeps(
+        &x.len,
+        &x.key,
+        &x.child,
+        &x.next,
+        &x.label,
+        256,
+        first,
+        true,
+        0,
+    ) {
+        return unlisted();
+    }
+    table_of(x)
 }

@@ -3,17 +3,16 @@ use mathlib.Core.Path.{_≡_, refl}
 use mathlib.Core.List.{List, [], _∷_, _++_, map}
 use mathlib.Core.Option.{Option, some, none}
 use Prim.Native.Nat.{ℕ}
-use lib.ListN.{length, replicate, drop}
-use Rattle.octets.specs.Pick.{pick}
+use lib.ListN.{length}
 use Rattle.octets.specs.Bytes.{le, leValue}
 use Rattle.octets.specs.Place.{area}
 use Rattle.octets.specs.Compare.{same}
 use Rattle.decimal.specs.Integer.{patternOf, signedOf, negativeOf, unsignedOf, positiveOf, digitsAfter}
 use Rattle.decimal.specs.Text.{textOf, naturalText, digitsOf}
-use Rattle.listpack.specs.Width.{fits, narrow, extend, halfOf}
+use Rattle.listpack.specs.Width.{fits, narrow, extend}
 use Rattle.listpack.specs.Element.{element, encodeItem, itemOf, integerBody, textHead, backLength}
 use Rattle.listpack.specs.Listpack.{listpack, header, elements}
-use Rattle.listpack.specs.Read.{parse, Parsed, readElement, readBy, readWide, closeInteger, textStands, asText, closeText, tagWidth, backAt, parseMany, parseListpack}
+use Rattle.listpack.specs.Read.{parse, Parsed, readElement, readBy, readWide, integerStands, asInteger, closeInteger, textStands, asText, closeText, tagWidth, backAt, parseMany, parseListpack}
 
 pub record Row : Type 0 where
   pub string : List ℕ
@@ -47,7 +46,7 @@ abbrev found : Row → Option Parsed
 found r = some (record { string = r .string; size = length (r .bytes) })
 
 read : map (λ (r : Row). parse (r .bytes ++ (7 ∷ []))) table ≡ map found table
-unfolding table parse readElement readBy readWide closeInteger textStands asText closeText tagWidth backAt extend integerBody textHead backLength fits narrow le leValue area patternOf signedOf negativeOf unsignedOf positiveOf digitsAfter same textOf naturalText digitsOf
+unfolding table parse readElement readBy readWide integerStands asInteger closeInteger textStands asText closeText tagWidth backAt extend integerBody textHead backLength fits narrow le leValue area patternOf signedOf negativeOf unsignedOf positiveOf digitsAfter same textOf naturalText digitsOf
 read = refl
 
 -- bytes that hold a value in another form than the one that is written, or none
@@ -64,7 +63,7 @@ table-refused =
     ∷ []
 
 refused : map parse table-refused ≡ map (λ (b : List ℕ). none) table-refused
-unfolding table-refused parse readElement readBy readWide closeInteger textStands asText closeText tagWidth backAt extend integerBody textHead backLength fits narrow le leValue area patternOf signedOf negativeOf unsignedOf positiveOf digitsAfter same
+unfolding table-refused parse readElement readBy readWide integerStands asInteger closeInteger textStands asText closeText tagWidth backAt extend integerBody textHead backLength fits narrow le leValue area patternOf signedOf negativeOf unsignedOf positiveOf digitsAfter same
 refused = refl
 
 -- the empty listpack (01, Examples by byte)

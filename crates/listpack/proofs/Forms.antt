@@ -1,14 +1,14 @@
 -- The forms of an integer, by the size of its body. Assumes nothing.
-use mathlib.Core.Path.{_≡_, refl, sym, ap, _∙_, subst}
-use mathlib.Core.Bool.{Bool, true, false}
-use mathlib.Core.List.{List, [], _∷_, _++_}
-use Prim.Native.Nat.{ℕ, _+_, _-_, _*_, _/_, _%_, _^_, _≤_, _<_}
+use mathlib.Core.Path.{_≡_, refl, ap, _∙_}
+use mathlib.Core.Bool.{true, false}
+use mathlib.Core.List.{List, [], _∷_}
+use Prim.Native.Nat.{ℕ, _+_, _-_, _/_, _%_, _≤_, _<_}
 use native.Mathlib.Omega.{arith}
-use lib.Dec.{ltb, eqb}
+use lib.Dec.{eqb}
 use lib.ListN.{length}
 use Rattle.octets.specs.Pick.{pick}
 use Rattle.octets.specs.Bytes.{le}
-use Rattle.listpack.specs.Width.{fits, narrow, halfOf}
+use Rattle.listpack.specs.Width.{fits, halfOf}
 use Rattle.listpack.specs.Element.{integerBody, tinyBody, shortBody, wideBody, textHead, backLength}
 use Rattle.listpack.proofs.Walk.{pick-lt, pick-by}
 

@@ -1,9 +1,9 @@
 -- What each definition of the reader says at each answer of the code. Assumes nothing.
 use mathlib.Core.Path.{_≡_, refl, sym, ap, _∙_}
 use mathlib.Core.Bool.{Bool, true, false}
-use mathlib.Core.List.{List, [], _∷_}
+use mathlib.Core.List.{List}
 use mathlib.Core.Option.{Option, some, none}
-use Prim.Native.Nat.{ℕ, suc, _+_, _-_, _*_, _/_, _%_, _^_, _≤_, _<_}
+use Prim.Native.Nat.{ℕ, suc, _+_, _-_, _*_, _/_, _%_, _≤_, _<_}
 use native.Mathlib.Numerals.{add-one}
 use native.Mathlib.Omega.{arith}
 use lib.Dec.{eqb}
@@ -21,8 +21,7 @@ use Rattle.decimal.specs.declared.Recognised.the-variants.{Integer as Numeral, 
 use Rattle.octets.proofs.Laws.{same-length, part-area}
 use Rattle.listpack.specs.Width.{extend, halfOf}
 use Rattle.listpack.specs.Element.{integerBody, textHead, backLength}
-use Rattle.listpack.specs.Read.{backAt, closeInteger, textStands, asText, closeText, tagWidth, readWide, readBy, readElement}
-use Rattle.listpack.specs.declared.Element.{Element}
+use Rattle.listpack.specs.Read.{backAt, integerStands, asInteger, closeInteger, textStands, asText, closeText, tagWidth, readWide, readBy, readElement}
 use Rattle.listpack.specs.declared.Element.the-variants.{Integer, Text, Bad}
 use Rattle.listpack.proofs.Walk.{pick-eq}
 use Rattle.listpack.proofs.Forms.{back-size}
@@ -58,17 +57,25 @@ module _ (n : ℕ) (s : List ℕ) where
 
 -- an integer that is closed, or refused at either test
 module _ (s : List ℕ) (p n : ℕ) where
-  pub integer-other : (length (integerBody p) ≡ n → ⊥) → closeInteger s p n ≡ Bad
-  unfolding closeInteger
+  pub integer-other : (length (integerBody p) ≡ n → ⊥) → integerStands s p n ≡ false
+  unfolding integerStands
   integer-other h = simp ne-eqb
 
-  pub integer-open : length (integerBody p) ≡ n → backAt n s ≡ false → closeInteger s p n ≡ Bad
-  unfolding closeInteger
-  integer-open h e = simp (eq-eqb, e)
+  pub integer-last : length (integerBody p) ≡ n → integerStands s p n ≡ backAt n s
+  unfolding integerStands
+  integer-last h = simp eq-eqb
 
   pub integer-closed : length (integerBody p) ≡ n → backAt n s ≡ true → closeInteger s p n ≡ Integer p (n + length (backLength n))
-  unfolding closeInteger
-  integer-closed h e = simp (eq-eqb, e)
+  unfolding closeInteger asInteger
+  integer-closed h e = rw (integer-last h, e)
+
+pub integer-made : (p n : ℕ) → asInteger p n true ≡ Integer p (n + length (backLength n))
+unfolding asInteger
+integer-made p n = refl
+
+pub integer-bad : (p n : ℕ) → asInteger p n false ≡ Bad
+unfolding asInteger
+integer-bad p n = refl
 
 -- a part that is lent, `&s[at..at + l]`
 pub lent : (s : List ℕ) (at l : ℕ) → take (at + l - at) (drop at s) ≡ area at l s
@@ -128,9 +135,9 @@ module _ (w : ℕ) (s : List ℕ) where
   unfolding readWide
   wide-none k h = simp (ne-eqb, le-ltb)
 
-  pub wide-some : (w ≡ 0 → ⊥) → w < length s → readWide w s ≡ closeInteger s (extend (halfOf w) (leValue (area 1 w s))) (1 + w)
-  unfolding readWide
-  wide-some k h = simp (ne-eqb, lt-ltb)
+  pub wide-some : (v : ℕ) → v ≡ extend (halfOf w) (leValue (area 1 w s)) → (w ≡ 0 → ⊥) → w < length s → readWide w s ≡ asInteger v (1 + w) (integerStands s v (1 + w))
+  unfolding readWide closeInteger
+  wide-some v e k h = rw (e, ne-eqb w 0 k, lt-ltb w (length s) h)
 
 -- by the first byte
 pub read-none : (s : List ℕ) → length s < 2 → readElement s ≡ Bad
@@ -142,17 +149,17 @@ module _ (s : List ℕ) (b c : ℕ) (two : 2 ≤ length s) (x : getD s 0 0 ≡ b
   unfolding readElement
   by-first = rw (le-ltb (length s) 2 two, x, y)
 
-  pub read-tiny : b < 128 → readElement s ≡ closeInteger s b 1
-  unfolding readBy
+  pub read-tiny : b < 128 → readElement s ≡ asInteger b 1 (integerStands s b 1)
+  unfolding readBy closeInteger
   read-tiny h = by-first ∙ simp lt-ltb
 
   pub read-text : 128 ≤ b → b < 192 → readElement s ≡ asText 1 (b - 128) (textStands s 1 (b - 128))
   unfolding readBy closeText
   read-text h k = by-first ∙ simp (le-ltb, lt-ltb)
 
-  pub read-short : 192 ≤ b → b < 224 → readElement s ≡ closeInteger s (extend 4096 (256 * (b - 192) + c)) 2
-  unfolding readBy
-  read-short h k = by-first ∙ simp (le-ltb b 128 (omega arith), le-ltb, lt-ltb)
+  pub read-short : (v : ℕ) → v ≡ extend 4096 (256 * (b - 192) + c) → 192 ≤ b → b < 224 → readElement s ≡ asInteger v 2 (integerStands s v 2)
+  unfolding readBy closeInteger
+  read-short v e h k = by-first ∙ rw (e, le-ltb b 128 (omega arith), le-ltb b 192 h, lt-ltb b 224 k)
 
   pub read-long : 224 ≤ b → b < 240 → readElement s ≡ asText 2 (256 * (b - 224) + c) (textStands s 2 (256 * (b - 224) + c))
   unfolding readBy closeText

@@ -1,21 +1,17 @@
 -- A whole listpack: parseListpack and listpack are inverse. Assumes nothing.
 use mathlib.Core.Path.{_≡_, refl, sym, ap, ap₂, _∙_, subst}
-use mathlib.Core.Bool.{Bool, true, false}
 use mathlib.Core.List.{List, [], _∷_, _++_, append-assoc}
 use mathlib.Core.Option.{some, Option·some-injective}
-use Prim.Native.Nat.{ℕ, zero, suc, _+_, _*_, _^_, _≤_, _<_}
+use Prim.Native.Nat.{ℕ, _+_, _^_, _≤_, _<_}
 use native.Mathlib.Omega.{arith}
-use lib.Dec.{leb, eqb}
-use lib.ListN.{length, take, drop, length-append, length-drop}
+use lib.Dec.{leb}
+use lib.ListN.{length, drop, length-append, length-drop}
 use lib.Seq.{drop-at}
 use borrow.Author.Tests.{le-leb, eq-eqb, leb-true, eqb-true}
-use Rattle.octets.specs.Pick.{both}
 use Rattle.octets.specs.Bytes.{Bytes, le, leValue}
 use Rattle.octets.specs.Place.{area}
 use Rattle.octets.specs.Compare.{same}
-use Rattle.octets.specs.Maybe.{_>>=_, _>>_, need}
 use Rattle.octets.proofs.Laws.{bytes-drop, bytes-area, area-front, area-middle, area-split, length-area, length-le, value-le, le-value, value-le-lt, same-refl, same-true, both-true}
-use Rattle.listpack.specs.Element.{element}
 use Rattle.listpack.specs.Listpack.{elements, header, listpack}
 use Rattle.listpack.specs.Read.{Walked, parseMany, parseListpack}
 use Rattle.listpack.proofs.Walk.{bound, needed}

@@ -7,11 +7,12 @@ ghost use lib.ListN.{length};
 ghost use Rattle.listpack.specs.Width.{fits, narrow, extend, halfOf};
 ghost use Rattle.listpack.specs.Element.{IsWide, integerBody, textHead, backLength};
 
+// The last pattern, and the first that stands for a negative number.
 const LAST: u64 = 0xFFFF_FFFF_FFFF_FFFF;
 
 const SIGN: u64 = 0x8000_0000_0000_0000;
 
-// Half the ranges of 12, 16, 24, 32 and 64 bits; the first form of two bytes has 13 bits.
+// Half the range of the form of two bytes, which has 13 bits, and of 16, 24, 32 and 64 bits.
 pub const HALF_SHORT: u64 = 4096;
 
 pub const HALF_16: u64 = 0x8000;
@@ -30,6 +31,7 @@ pub fn half_of(w: usize) -> u64
     1 << (8 * w - 1)
 }
 
+// The number is from -half to half - 1.
 pub fn fits(half: u64, p: u64) -> bool
     requires { ⌜ 1 ≤ half ⌝ }
     ensures { λ r. ⌜ r ≡ fits half p ⌝ }
@@ -43,6 +45,7 @@ pub fn fits(half: u64, p: u64) -> bool
     false
 }
 
+// The pattern in a form of that range.
 pub fn narrow(half: u64, p: u64) -> u64
     requires { ⌜ (1 ≤ half) × (half ≤ 2 ^ 63) × (fits half p ≡ true) ⌝ }
     ensures { λ r. ⌜ r ≡ narrow half p ⌝ }
@@ -53,6 +56,7 @@ pub fn narrow(half: u64, p: u64) -> u64
     p - (SIGN - half) * 2
 }
 
+// The 64-bit pattern of a form's.
 pub fn extend(half: u64, v: u64) -> u64
     requires { ⌜ (half ≤ 2 ^ 63) × (v < 2 * half) ⌝ }
     ensures { λ r. ⌜ r ≡ extend half v ⌝ }
@@ -70,6 +74,7 @@ pub struct Wide {
     pub half: u64,
 }
 
+// The first of them that fits.
 pub fn wide_form(p: u64) -> Wide
     requires { ⌜ (128 ≤ p) × (fits 4096 p ≡ false) ⌝ }
     ensures { λ r. ⌜ IsWide p (r .tag) (r .w) (r .half) ⌝ }

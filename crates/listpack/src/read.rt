@@ -8,7 +8,7 @@ ghost use Rattle.octets.specs.Place.{area};
 ghost use Rattle.octets.specs.Maybe.{isNone};
 ghost use Rattle.decimal.specs.Integer.{patternOf};
 ghost use Rattle.listpack.specs.Width.{extend, halfOf};
-ghost use Rattle.listpack.specs.Read.{backAt, closeInteger, textStands, asText, tagWidth, readWide, readElement};
+ghost use Rattle.listpack.specs.Read.{backAt, integerStands, asInteger, textStands, asText, tagWidth, readWide, readElement};
 use crate::Element;
 use crate::form::HALF_SHORT;
 use crate::form::back_size;
@@ -18,6 +18,7 @@ use crate::form::half_of;
 use crate::form::head_size;
 use decimal::Recognised;
 
+// The back length of n stands at n.
 fn back_at(n: usize, s: &[u8]) -> bool
     requires { ⌜ n < 16384 ⌝ }
     ensures { λ r. ⌜ r ≡ backAt n (now (s .entry)) ⌝ }
@@ -37,14 +38,23 @@ fn back_at(n: usize, s: &[u8]) -> bool
     octets::wide(s[n + 1]) == (128 + n % 128) as u64
 }
 
-fn close_integer(s: &[u8], p: u64, n: usize) -> Element
+// An integer in n bytes: the first form that fits it has as many, and it is closed.
+fn integer_stands(s: &[u8], p: u64, n: usize) -> bool
     requires { ⌜ n ≤ 9 ⌝ }
-    ensures { λ r. ⌜ r ≡ closeInteger (now (s .entry)) p n ⌝ }
+    ensures { λ r. ⌜ r ≡ integerStands (now (s .entry)) p n ⌝ }
 {
     if body_size(p) != n {
-        return Element::Bad;
+        return false;
     }
-    if back_at(n, s) {
+    back_at(n, s)
+}
+
+// Where the element is made, apart from the tests, so that the compiler keeps it in registers.
+fn as_integer(p: u64, n: usize, stands: bool) -> Element
+    requires { ⌜ n ≤ 9 ⌝ }
+    ensures { λ r. ⌜ r ≡ asInteger p n stands ⌝ }
+{
+    if stands {
         return Element::Integer {
             pattern: p,
             size: n + back_size(n),
@@ -64,7 +74,7 @@ fn is_text(s: &[u8]) -> bool
     }
 }
 
-// Whether it is an integer is asked last, since that looks at every digit.
+// A text of l bytes from at on: it has that head, is closed and is no integer, which is asked last since it looks at every digit.
 fn text_stands(s: &[u8], at: usize, l: usize) -> bool
     requires { ⌜ (at ≤ 2) × (l < 4096) ⌝ }
     ensures { λ r. ⌜ r ≡ textStands (now (s .entry)) at l ⌝ }
@@ -79,6 +89,7 @@ fn text_stands(s: &[u8], at: usize, l: usize) -> bool
     false
 }
 
+// The text as an element, likewise.
 fn as_text(at: usize, l: usize, stands: bool) -> Element
     requires { ⌜ (at ≤ 2) × (l < 4096) ⌝ }
     ensures { λ r. ⌜ r ≡ asText at l stands ⌝ }
@@ -121,6 +132,7 @@ fn wide_value(s: &[u8], w: usize) -> u64
     extend(half_of(w), octets::read_le(s, 1, w))
 }
 
+// A number of w bytes; none where w is 0.
 fn read_wide(s: &[u8], w: usize) -> Element
     requires { ⌜ w ≤ 8 ⌝ }
     ensures { λ r. ⌜ r ≡ readWide w (now (s .entry)) ⌝ }
@@ -131,7 +143,8 @@ fn read_wide(s: &[u8], w: usize) -> Element
     if s.len() <= w {
         return Element::Bad;
     }
-    close_integer(s, wide_value(s, w), 1 + w)
+    let v = wide_value(s, w);
+    as_integer(v, 1 + w, integer_stands(s, v, 1 + w))
 }
 
 // The element at the start of s, by its first byte.
@@ -143,7 +156,7 @@ pub fn read_element(s: &[u8]) -> Element
     }
     let b = octets::wide(s[0]);
     if b < 128 {
-        return close_integer(s, b, 1);
+        return as_integer(b, 1, integer_stands(s, b, 1));
     }
     if b < 192 {
         let l = (b - 128) as usize;
@@ -151,7 +164,8 @@ pub fn read_element(s: &[u8]) -> Element
     }
     let c = octets::wide(s[1]);
     if b < 224 {
-        return close_integer(s, extend(HALF_SHORT, 256 * (b - 192) + c), 2);
+        let v = extend(HALF_SHORT, 256 * (b - 192) + c);
+        return as_integer(v, 2, integer_stands(s, v, 2));
     }
     if b < 240 {
         let l = (256 * (b - 224) + c) as usize;

@@ -1,4 +1,4 @@
-// Writers of an element into a place of a lent slice. Each answers where the next byte goes.
+// Writers of an element into a place of a lent slice.
 
 ghost use mathlib.Core.Path.{_≡_};
 ghost use mathlib.Core.List.{[], _∷_};
@@ -27,7 +27,7 @@ fn put_two(d: &mut [u8], at: usize, a: u64, b: u64)
     d[at + 1] = b as u8;
 }
 
-// The answer of this and the next three is how many bytes were written.
+// Each part of an element answers how many bytes it took.
 fn write_back(d: &mut [u8], at: usize, n: usize) -> usize
     requires { ⌜ (n < 16384) × (at + length (backLength n) ≤ length (now d)) ⌝ }
     ensures { λ r. ⌜ (r ≡ length (backLength n)) × (now (d .exit) ≡ put (now (d .entry)) at (backLength n)) ⌝ }
@@ -78,6 +78,7 @@ fn write_body(d: &mut [u8], at: usize, p: u64) -> usize
     write_wide(d, at, f.tag, f.w, f.half, p)
 }
 
+// The answer is where the next byte goes.
 pub fn write_integer(d: &mut [u8], at: usize, p: u64) -> usize
     requires { ⌜ at + length (encodeItem (integer p)) ≤ length (now d) ⌝ }
     ensures { λ r. ⌜ (r ≡ at + length (encodeItem (integer p))) × (now (d .exit) ≡ put (now (d .entry)) at (encodeItem (integer p))) ⌝ }
@@ -98,6 +99,7 @@ fn write_text(d: &mut [u8], at: usize, s: &[u8]) -> usize
     end + write_back(d, end, n)
 }
 
+// The answer is where the next byte goes.
 pub fn write_string(d: &mut [u8], at: usize, s: &[u8]) -> usize
     requires { ⌜ (length (now s) < 4096) × (at + length (element (now s)) ≤ length (now d)) ⌝ }
     ensures { λ r. ⌜ (r ≡ at + length (element (now (s .entry)))) × (now (d .exit) ≡ put (now (d .entry)) at (element (now (s .entry)))) ⌝ }

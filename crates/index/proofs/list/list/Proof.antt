@@ -7,12 +7,8 @@ use Prim.Native.Nat.{ℕ, _<_, _≤_}
 use native.Mathlib.Omega.{arith}
 use borrow.Author.Needs.{needs}
 use borrow.Author.Tests.{ne-eqb, not-true, not-false}
-use lib.ListN.{replicate}
-use Rattle.index.specs.declared.Gathered.{Gathered}
 use Rattle.index.specs.Record.{isPlaced}
-use Rattle.index.specs.Table.{columns, rowsFrom}
-use Rattle.index.specs.Answer.{rowsOf}
-use Rattle.index.proofs.Listing.{root-within, none-listed, not-placed, not-kept, not-listed, is-listed}
+use Rattle.index.proofs.Listing.{root-within, none-listed, not-placed, not-kept, is-listed}
 use Rattle.index.proofs.list.list.Statement.{statement}
 use Rattle.index.proofs.list.list.Tie as tie
 
@@ -35,26 +31,8 @@ list-spec =
     none-listed (c .unlisted2 .result) (c .unlisted2 .ensures)
     ∙ not-kept x (on c.before.before.before.before.before.before.before.before.before.before.before.before.before.before) (c.before.before.before.before.before.before.before.before.before.before.before.before.before .wide-link .result) (c.before.before.before.before.before.before.before.before.before.before .link-at .result) (c.before.before.before.before.before.before.before.before.before.before.before.before.before .wide-link .ensures .0) (c.before.before.before.before.before.before.before.before.before.before .link-at .ensures .0)
     (c.before.before .keeps .result) (c.before.before .keeps .ensures (x .val)) (not-true _ (c.before .if2 .taken)))
-    (λ c. search needs)
-    (λ c. search needs)
-    (λ c. search needs)
-    (λ c κs. search needs)
-    (λ c. search needs)
-    (λ c. search needs)
-    (λ c κs. search needs)
+    (λ c κs. root-within (c.before.before.before.before.before.before.before.before.before.before.before.before.before.before.before .args .t1) (on c.before.before.before.before.before.before.before.before.before.before.before.before.before))
     (λ c.
-    let x = c.before.before.before.before.before.before.before.before.before.before.before.before.before.before.before.before.before.before.before.before.before.before.before.before.before.before.before.before.before.before.before.before.before .args .t1 in
-    none-listed (c .unlisted3 .result) (c .unlisted3 .ensures)
-    ∙ not-listed x (on c.before.before.before.before.before.before.before.before.before.before.before.before.before.before.before.before.before.before.before.before.before.before.before.before.before.before.before.before.before.before.before) (c.before.before.before.before.before.before.before.before.before.before.before.before.before.before.before.before.before.before.before.before.before.before.before.before.before.before.before.before.before.before .wide-link .result) (c.before.before.before.before.before.before.before.before.before.before.before.before.before.before.before.before.before.before.before.before.before.before.before.before.before.before.before .link-at .result) (c.before.before.before.before.before.before.before.before.before.before.before.before.before.before.before.before.before.before.before.before.before.before.before.before.before.before.before.before.before.before .wide-link .ensures .0) (c.before.before.before.before.before.before.before.before.before.before.before.before.before.before.before.before.before.before.before.before.before.before.before.before.before.before.before .link-at .ensures .0)
-    (c.before.before.before.before.before.before.before.before.before.before.before.before.before.before.before.before.before.before.before .keeps .result) (c.before.before.before.before.before.before.before.before.before.before.before.before.before.before.before.before.before.before.before .keeps .ensures (x .val)) (not-false _ (c.before.before.before.before.before.before.before.before.before.before.before.before.before.before.before.before.before.before .if2 .left))
-    (rowsOf (c.before.before.before.before.before.before .gather .result) (columns (c.before.before.before.before.before.before .gather .last .1 .1 .1 .1 .1 .1 .1 .1 .1 .1 .1 .0) (c.before.before.before.before.before.before .gather .last .1 .1 .1 .1 .1 .1 .1 .1 .1 .1 .1 .1 .0) (c.before.before.before.before.before.before .gather .last .1 .1 .1 .1 .1 .1 .1 .1 .1 .1 .1 .1 .1 .0)))
-    (columns (replicate 64 0) (replicate 64 0) (replicate 1024 0)) (c.before.before.before.before.before.before .gather .ensures .0)
-    (ap (λ (r : Gathered). rowsOf r (columns (c.before.before.before.before.before.before .gather .last .1 .1 .1 .1 .1 .1 .1 .1 .1 .1 .1 .0) (c.before.before.before.before.before.before .gather .last .1 .1 .1 .1 .1 .1 .1 .1 .1 .1 .1 .1 .0) (c.before.before.before.before.before.before .gather .last .1 .1 .1 .1 .1 .1 .1 .1 .1 .1 .1 .1 .1 .0))) (c.before .enum-told .given .1)))
-    (λ c.
-    let x = c.before.before.before.before.before.before.before.before.before.before.before.before.before.before.before.before.before.before.before.before.before.before.before.before.before.before.before.before.before.before.before.before.before .args .t1 in
-    is-listed x (on c.before.before.before.before.before.before.before.before.before.before.before.before.before.before.before.before.before.before.before.before.before.before.before.before.before.before.before.before.before.before.before) (c.before.before.before.before.before.before.before.before.before.before.before.before.before.before.before.before.before.before.before.before.before.before.before.before.before.before.before.before.before.before .wide-link .result) (c.before.before.before.before.before.before.before.before.before.before.before.before.before.before.before.before.before.before.before.before.before.before.before.before.before.before.before .link-at .result) (c.before.before.before.before.before.before.before.before.before.before.before.before.before.before.before.before.before.before.before.before.before.before.before.before.before.before.before.before.before.before .wide-link .ensures .0) (c.before.before.before.before.before.before.before.before.before.before.before.before.before.before.before.before.before.before.before.before.before.before.before.before.before.before.before .link-at .ensures .0)
-    (c.before.before.before.before.before.before.before.before.before.before.before.before.before.before.before.before.before.before.before .keeps .result) (c.before.before.before.before.before.before.before.before.before.before.before.before.before.before.before.before.before.before.before .keeps .ensures (x .val)) (not-false _ (c.before.before.before.before.before.before.before.before.before.before.before.before.before.before.before.before.before.before .if2 .left))
-    (rowsOf (c.before.before.before.before.before.before .gather .result) (columns (c.before.before.before.before.before.before .gather .last .1 .1 .1 .1 .1 .1 .1 .1 .1 .1 .1 .0) (c.before.before.before.before.before.before .gather .last .1 .1 .1 .1 .1 .1 .1 .1 .1 .1 .1 .1 .0) (c.before.before.before.before.before.before .gather .last .1 .1 .1 .1 .1 .1 .1 .1 .1 .1 .1 .1 .1 .0)))
-    (columns (replicate 64 0) (replicate 64 0) (replicate 1024 0)) (c.before.before.before.before.before.before .gather .ensures .0)
-    (rowsFrom (columns (c.before.before.before.before.before.before .gather .last .1 .1 .1 .1 .1 .1 .1 .1 .1 .1 .1 .0) (c.before.before.before.before.before.before .gather .last .1 .1 .1 .1 .1 .1 .1 .1 .1 .1 .1 .1 .0) (c.before.before.before.before.before.before .gather .last .1 .1 .1 .1 .1 .1 .1 .1 .1 .1 .1 .1 .1 .0)) 0 (c.before .n .given .0 .0))
-    (ap (λ (r : Gathered). rowsOf r (columns (c.before.before.before.before.before.before .gather .last .1 .1 .1 .1 .1 .1 .1 .1 .1 .1 .1 .0) (c.before.before.before.before.before.before .gather .last .1 .1 .1 .1 .1 .1 .1 .1 .1 .1 .1 .1 .0) (c.before.before.before.before.before.before .gather .last .1 .1 .1 .1 .1 .1 .1 .1 .1 .1 .1 .1 .1 .0))) (c.before .n .given .1))))
+    let x = c.before.before.before.before.before.before.before.before.before.before.before.before.before.before.before.before .args .t1 in
+    is-listed x (on c.before.before.before.before.before.before.before.before.before.before.before.before.before.before) (c.before.before.before.before.before.before.before.before.before.before.before.before.before .wide-link .result) (c.before.before.before.before.before.before.before.before.before.before .link-at .result) (c.before.before.before.before.before.before.before.before.before.before.before.before.before .wide-link .ensures .0) (c.before.before.before.before.before.before.before.before.before.before .link-at .ensures .0)
+    (c.before.before .keeps .result) (c.before.before .keeps .ensures (x .val)) (not-false _ (c.before .if2 .left)) (c .table-of .result) (c .table-of .ensures)))

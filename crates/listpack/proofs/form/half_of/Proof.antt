@@ -1,3 +1,4 @@
+-- `listpack::form::half_of` meets its contract. Assumes nothing.
 use mathlib.Core.Path.{_∙_}
 use native.Mathlib.Omega.{arith}
 use lib.Pow.{shl-exact}

@@ -1,9 +1,9 @@
+-- `listpack::read::read_wide` meets its contract. Assumes nothing.
 use mathlib.Core.Path.{sym, ap, _∙_}
 use native.Mathlib.Omega.{arith}
 use Rattle.listpack.proofs.Leaves.{wide-no, wide-none, wide-some}
 use Prim.Native.Nat.{_+_}
-use Rattle.listpack.specs.Read.{closeInteger}
-use denote.Ref.{now}
+use Rattle.listpack.specs.Read.{asInteger}
 use borrow.Author.Needs.{needs}
 use Rattle.listpack.proofs.read.read_wide.Statement.{statement}
 use Rattle.listpack.proofs.read.read_wide.Tie as tie
@@ -16,5 +16,9 @@ read-wide-spec =
     (λ c. sym (wide-none _ _ (omega arith) (omega arith)))
     (λ c κs. search needs)
     (λ c. search needs)
+    (λ c. search needs)
     (λ c κs. search needs)
-    (λ c. let a = c .before .before .before .before .before .args in c .close-integer .ensures ∙ ap (λ p. closeInteger (now (a .s)) p (1 + a .w)) (c .before .wide-value .ensures) ∙ sym (wide-some _ _ (omega arith) (omega arith))))
+    (λ c κs. search needs)
+    (λ c. let w = c .before .before .before .before .before .before .args .w in
+    let v = c .before .before .wide-value in
+    c .as-integer .ensures ∙ ap (asInteger (v .result) (1 + w)) (c .before .integer-stands .ensures) ∙ sym (wide-some _ _ (v .result) (v .ensures) (omega arith) (omega arith))))

@@ -1,3 +1,4 @@
+-- `listpack::read::tag_width` meets its contract. Assumes nothing.
 use mathlib.Core.Path.{sym}
 use native.Mathlib.Omega.{arith}
 use Rattle.listpack.proofs.Leaves.{tag-16, tag-24, tag-32, tag-64, tag-none}

@@ -1,3 +1,4 @@
+-- `listpack::read::text_stands` meets its contract. Assumes nothing.
 use mathlib.Core.Path.{sym, ap, _∙_}
 use native.Mathlib.Omega.{arith}
 use Rattle.listpack.proofs.Leaves.{lent, text-other, text-open, text-last}
@@ -20,7 +21,9 @@ text-stands-spec =
     (λ c κs. search needs)
     (λ c. search needs)
     (λ c. search needs)
-    (λ c. let a = c .before .before .before .before .before .args in omega (arith, back-in (now (a .s)) (a .at + a .l) (sym (c .before .back-at .ensures) ∙ c .if2 .taken)))
+    (λ c. let a = c .before .before .before .before .before .args in
+    omega (arith, back-in (now (a .s)) (a .at + a .l) (sym (c .before .back-at .ensures) ∙ c .if2 .taken)))
     (λ c κs. search needs)
-    (λ c. let a = c .before .before .before .before .before .before .before .args in c .is-text .ensures ∙ ap (λ l. isNone (patternOf l)) (lent (now (a .s)) (a .at) (a .l)) ∙ sym (text-last _ _ _ (omega arith) (sym (c .before .before .before .back-at .ensures) ∙ c .before .before .if2 .taken)))
+    (λ c. let a = c .before .before .before .before .before .before .before .args in
+    c .is-text .ensures ∙ ap (λ l. isNone (patternOf l)) (lent (now (a .s)) (a .at) (a .l)) ∙ sym (text-last _ _ _ (omega arith) (sym (c .before .before .before .back-at .ensures) ∙ c .before .before .if2 .taken)))
     (λ c. sym (text-open _ _ _ (sym (c .before .back-at .ensures) ∙ c .if2 .left))))

@@ -1,3 +1,4 @@
+-- `listpack::read::wide_value` meets its contract. Assumes nothing.
 use mathlib.Core.Path.{ap₂, _∙_}
 use native.Mathlib.Omega.{arith}
 use Rattle.listpack.proofs.Width.{half-small, half-twice}
@@ -10,5 +11,6 @@ pub wide-value-spec : {M : Type 1} → statement M
 wide-value-spec = tie.close (tie.spec
     (λ c κs. search needs)
     (λ c κs. search needs)
-    (λ c κs. let w = c .before .before .before .args .w in omega (arith, half-small w (omega arith) (omega arith), half-twice w (omega arith) (omega arith)))
+    (λ c κs. let w = c .before .before .before .args .w in
+    omega (arith, half-small w (omega arith) (omega arith), half-twice w (omega arith) (omega arith)))
     (λ c. c .extend .ensures ∙ ap₂ extend (c .before .before .half-of .ensures) (c .before .read-le .ensures .0)))

@@ -1,0 +1,18 @@
+-- `wallathi_bench_check` meets its contract: in each branch the test says what `check` answered. Assumes nothing.
+use mathlib.Core.Path.{sym, ap, _∙_}
+use borrow.Author.Needs.{needs}
+use Rattle.bench.specs.Answer.{asNumber}
+use Rattle.bench.proofs.wallathi_bench_check.Statement.{statement}
+use Rattle.bench.proofs.wallathi_bench_check.Tie as tie
+
+check-requires : tie.Need-check-requires
+check-requires c κs = search needs
+
+returns : tie.Need-returns
+returns c = ap asNumber (sym (c .if1 .taken) ∙ c .before .check .ensures)
+
+returns-2 : tie.Need-returns-2
+returns-2 c = ap asNumber (sym (c .if1 .left) ∙ c .before .check .ensures)
+
+pub wallathi-bench-check-spec : {M : Type 1} → statement M
+wallathi-bench-check-spec = tie.close (tie.spec check-requires returns returns-2)

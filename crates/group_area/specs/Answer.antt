@@ -1,0 +1,49 @@
+-- What the functions answer, in terms of the groups that an area holds. Assumes nothing.
+use mathlib.Core.Path.{_≡_}
+use mathlib.Core.Bool.{Bool, true, false}
+use mathlib.Core.List.{List, []}
+use mathlib.Core.Option.{Option, some, none}
+use Prim.Native.Nat.{ℕ}
+use lib.Dec.{leb}
+use lib.ListN.{length}
+use Rattle.octets.specs.Pick.{pick}
+use Rattle.id.specs.declared.Id.{Id}
+use Rattle.id.specs.Id.{greatest}
+use Rattle.groups.specs.Group.{Group, isAmong}
+use Rattle.groups.specs.Step.{putGroup, withoutGroup, newGroup}
+use Rattle.groups.specs.Area.{mostGroups, namesOf, isGroups, areaBytes, parseRegions}
+use Rattle.group_area.specs.declared.Created.{Created}
+use Rattle.group_area.specs.declared.Created.the-variants.{Done as Made, Refused}
+use Rattle.group_area.specs.declared.Destroyed.{Destroyed}
+use Rattle.group_area.specs.declared.Destroyed.the-variants.{Done as Gone, Absent}
+
+-- the groups that an area holds
+abbrev pub orNone : Option (List Group) → List Group
+orNone none = []
+orNone (some gs) = gs
+
+unfoldable pub groupsIn : List ℕ → List Group
+groupsIn s = orNone (parseRegions mostGroups s)
+
+-- a sound area has the bytes of the groups that are read of it, and they keep the rules; no pending ID is above the greatest ID, so the
+-- rule on the last ID says nothing here. An area that is read with any last ID is sound (proofs/Laws: parsed-area)
+pub record SoundArea (s : List ℕ) : Type 0 where
+  pub laid : s ≡ areaBytes (groupsIn s)
+  pub rules-kept : isGroups greatest (groupsIn s) ≡ true
+
+-- create: 10, the group exists; 11, there are 8 groups
+unfoldable pub createOf : List ℕ → List Group → Created
+createOf n gs = pick (isAmong n (namesOf gs)) (Refused 10) (pick (leb mostGroups (length gs)) (Refused 11) Made)
+
+-- the area after it; a refusal keeps every byte
+abbrev pub createdBytes : Created → List ℕ → Id → List ℕ → List ℕ
+createdBytes Made n start s = areaBytes (putGroup (newGroup n start) (groupsIn s))
+createdBytes (Refused k) n start s = s
+
+-- destroy: 9 is the caller's number for a group that is not there
+unfoldable pub destroyOf : List ℕ → List Group → Destroyed
+destroyOf n gs = pick (isAmong n (namesOf gs)) Gone Absent
+
+abbrev pub destroyedBytes : Destroyed → List ℕ → List ℕ → List ℕ
+destroyedBytes Gone n s = areaBytes (withoutGroup n (groupsIn s))
+destroyedBytes Absent n s = s

@@ -1,0 +1,4 @@
+pub mod Laws
+mod Packed
+mod Tested
+mod Outward

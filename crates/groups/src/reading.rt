@@ -1,0 +1,151 @@
+// What a sound region's group has: its parts, a consumer's place, an ID's entry, a consumer's next entry.
+
+ghost use mathlib.Core.Path.{_≡_};
+ghost use mathlib.Core.List.{[]};
+ghost use Prim.Native.Nat.{_+_, _≤_, _<_};
+ghost use lib.ListN.{length, drop, getD};
+ghost use lib.Dec.{eqb};
+ghost use Rattle.octets.specs.Pick.{both};
+ghost use Rattle.octets.specs.Compare.{same, isEqual};
+ghost use Rattle.id.specs.Id.{idOrder, below};
+ghost use Rattle.groups.specs.Parse.{entryId, groupIn};
+ghost use Rattle.groups.specs.Step.{nextPending};
+ghost use Rattle.groups.specs.Answer.{SoundRegion, spotFrom, placeIn, heldIn, nextAs};
+use crate::Held;
+use crate::Next;
+use crate::Place;
+use crate::Spot;
+use id::Id;
+use octets::Order;
+
+pub fn delivered(region: &[u8]) -> Id
+    requires { ⌜ SoundRegion (now region) ⌝ }
+    ensures { λ r. ⌜ r ≡ groupIn (now (region .entry)) .delivered ⌝ }
+{
+    id::read_id(region, 17)
+}
+
+pub fn consumer_count(region: &[u8]) -> usize
+    requires { ⌜ SoundRegion (now region) ⌝ }
+    ensures { λ r. ⌜ (r ≡ length (groupIn (now (region .entry)) .consumers)) × (r ≤ 16) ⌝ }
+{
+    octets::wide(region[33]) as usize
+}
+
+pub fn pending_count(region: &[u8]) -> usize
+    requires { ⌜ SoundRegion (now region) ⌝ }
+    ensures { λ r. ⌜ (r ≡ length (groupIn (now (region .entry)) .pending)) × (r ≤ 256) ⌝ }
+{
+    octets::read_le(region, 306, 2) as usize
+}
+
+pub fn has_name(region: &[u8], name: &[u8]) -> bool
+    requires { ⌜ SoundRegion (now region) ⌝ }
+    ensures { λ r. ⌜ r ≡ same (groupIn (now (region .entry)) .name) (now (name .entry)) ⌝ }
+{
+    let n = octets::wide(region[0]) as usize;
+    octets::equal(&region[1..1 + n], name)
+}
+
+// The names rise, so the search ends at the first that is not below.
+pub fn spot_of(region: &[u8], name: &[u8]) -> Spot
+    requires { ⌜ SoundRegion (now region) ⌝ }
+    ensures { λ r. ⌜ r ≡ spotFrom 0 (now (name .entry)) (groupIn (now (region .entry)) .consumers) ⌝ }
+{
+    let mut left = consumer_count(region);
+    let mut k = 0;
+    let mut at = 34;
+    while 0 < left {
+        let n = octets::wide(region[at]) as usize;
+        match octets::compare(name, &region[at + 1..at + 1 + n]) {
+            Order::Less => return Spot::New(k),
+            Order::Equal => return Spot::Known(k),
+            Order::Greater => {}
+        }
+        at += 17;
+        k += 1;
+        left -= 1;
+    }
+    Spot::New(k)
+}
+
+pub fn find_consumer(region: &[u8], name: &[u8]) -> Place
+    requires { ⌜ SoundRegion (now region) ⌝ }
+    ensures { λ r. ⌜ r ≡ placeIn (now (name .entry)) (groupIn (now (region .entry)) .consumers) ⌝ }
+{
+    match spot_of(region, name) {
+        Spot::Known(k) => Place::At(k),
+        Spot::New(_) => Place::Absent,
+    }
+}
+
+fn is_same(a: Id, b: Id) -> bool
+    ensures { λ r. ⌜ r ≡ isEqual (idOrder a b) ⌝ }
+{
+    match a.order(b) {
+        Order::Less => false,
+        Order::Equal => true,
+        Order::Greater => false,
+    }
+}
+
+pub fn find_pending(region: &[u8], id: Id) -> Held
+    requires { ⌜ SoundRegion (now region) ⌝ }
+    ensures { λ r. ⌜ r ≡ heldIn id (groupIn (now (region .entry))) ⌝ }
+{
+    let mut left = pending_count(region);
+    let mut k = 0;
+    let mut at = 308;
+    while 0 < left {
+        if is_same(id::read_id(region, at), id) {
+            let consumer = octets::wide(region[at + 16]) as usize;
+            let time = octets::read_le(region, at + 17, 8);
+            return Held::Entry(k, consumer, time, octets::read_le(region, at + 25, 2));
+        }
+        at += 27;
+        k += 1;
+        left -= 1;
+    }
+    Held::Missing
+}
+
+// Is the entry that consumer's, and above the ID?
+fn is_next(region: &[u8], at: usize, consumer: usize, after: Id) -> bool
+    requires { ⌜ at + 27 ≤ length (now region) ⌝ }
+    ensures { λ r. ⌜ r ≡ both (eqb (getD (drop at (now (region .entry))) 16 0) consumer) (below after (entryId (drop at (now (region .entry))))) ⌝ }
+{
+    let place = octets::wide(region[at + 16]) as usize;
+    if place != consumer {
+        return false;
+    }
+    after.is_below(id::read_id(region, at))
+}
+
+// The next entry of the consumer at a place.
+fn next_of(region: &[u8], consumer: usize, after: Id) -> Next
+    requires { ⌜ SoundRegion (now region) × (consumer < length (groupIn (now region) .consumers)) ⌝ }
+    ensures { λ r. ⌜ r ≡ nextAs (nextPending (getD (groupIn (now (region .entry)) .consumers) consumer []) after (groupIn (now (region .entry)))) ⌝ }
+{
+    let mut left = pending_count(region);
+    let mut at = 308;
+    while 0 < left {
+        if is_next(region, at, consumer, after) {
+            let id = id::read_id(region, at);
+            let time = octets::read_le(region, at + 17, 8);
+            return Next::Given(id, time, octets::read_le(region, at + 25, 2));
+        }
+        at += 27;
+        left -= 1;
+    }
+    Next::Nothing
+}
+
+pub fn next_pending(region: &[u8], consumer: &[u8], after: Id) -> Next
+    requires { ⌜ SoundRegion (now region) ⌝ }
+    ensures { λ r. ⌜ r ≡ nextAs (nextPending (now (consumer .entry)) after (groupIn (now (region .entry)))) ⌝ }
+{
+    match find_consumer(region, consumer) {
+        Place::At(k) => next_of(region, k, after),
+        Place::Absent => Next::Nothing,
+    }
+}

@@ -1,0 +1,7 @@
+mod Lists
+mod Moves
+mod Shapes
+mod Rows
+mod Changes
+mod Members
+mod Dropped

@@ -1,0 +1,95 @@
+// The changes of a group that commands make.
+
+ghost use mathlib.Core.Path.{_≡_};
+ghost use mathlib.Core.Bool.{true};
+ghost use Prim.Native.Nat.{_≤_};
+ghost use lib.ListN.{length};
+ghost use Rattle.id.specs.Id.{below};
+ghost use Rattle.groups.specs.Bytes.{regionBytes};
+ghost use Rattle.groups.specs.Parse.{groupIn};
+ghost use Rattle.groups.specs.Step as step;
+ghost use Rattle.groups.specs.Answer.{SoundRegion};
+ghost use Rattle.groups_change.specs.Change.{withDelivered, deliverAnswer, deliverLeaves, foundCount, claimAnswer, claimedAs, claimLeaves};
+use crate::Claimed;
+use crate::Delivery;
+use crate::consumers::lacks_consumer;
+use crate::consumers::make_consumer;
+use crate::consumers::remove_consumer;
+use crate::entries::append_entry;
+use crate::entries::remove_entries;
+use crate::entries::remove_entry;
+use crate::pieces::entry_row;
+use crate::pieces::grown;
+use crate::pieces::idle_for;
+use groups::Held;
+use groups::Place;
+use id::Id;
+
+pub fn set_delivered(region: &mut [u8], id: Id)
+    requires { ⌜ SoundRegion (now region) ⌝ }
+    ensures { λ _. ⌜ now (region .exit) ≡ regionBytes (withDelivered id (groupIn (now (region .entry)))) ⌝ }
+{
+    id::write_id(region, 17, id);
+}
+
+// The ID, above the last delivered one, becomes last delivered and pending for the consumer.
+pub fn deliver(region: &mut [u8], consumer: &[u8], time: u64, id: Id) -> Delivery
+    requires { ⌜ SoundRegion (now region) × (1 ≤ length (now consumer)) × (length (now consumer) ≤ 16) × (below (groupIn (now region) .delivered) id ≡ true) ⌝ }
+    ensures { λ r. ⌜ (r ≡ deliverAnswer (now (consumer .entry)) (groupIn (now (region .entry)))) × (now (region .exit) ≡ deliverLeaves r (now (region .entry)) (regionBytes (step.deliver (now (consumer .entry)) time id (groupIn (now (region .entry)))))) ⌝ }
+{
+    if lacks_consumer(region, consumer) {
+        return Delivery::Refused(12);
+    }
+    let n = groups::pending_count(region);
+    if 256 <= n {
+        return Delivery::Refused(13);
+    }
+    let place = make_consumer(region, consumer);
+    append_entry(region, n, id, place, time);
+    Delivery::Done
+}
+
+// The entry of an ID is taken out: 1, or 0 if it is not pending.
+pub fn acknowledge(region: &mut [u8], id: Id) -> u64
+    requires { ⌜ SoundRegion (now region) ⌝ }
+    ensures { λ r. ⌜ (r ≡ foundCount (step.findPending id (groupIn (now (region .entry)) .pending))) × (now (region .exit) ≡ regionBytes (step.acknowledge id (groupIn (now (region .entry))))) ⌝ }
+{
+    let Held::Entry(at, _, _, _) = groups::find_pending(region, id) else {
+        return 0;
+    };
+    remove_entry(region, at);
+    1
+}
+
+// An entry that is idle for long enough moves to the consumer.
+pub fn claim(region: &mut [u8], consumer: &[u8], least_idle: u64, id: Id, time: u64) -> Claimed
+    requires { ⌜ SoundRegion (now region) × (1 ≤ length (now consumer)) × (length (now consumer) ≤ 16) ⌝ }
+    ensures { λ r. ⌜ (r ≡ claimAnswer (now (consumer .entry)) «least_idle» id time (groupIn (now (region .entry)))) × (now (region .exit) ≡ claimLeaves r (now (region .entry)) (regionBytes (claimedAs (now (consumer .entry)) time (groupIn (now (region .entry))) (step.findPending id (groupIn (now (region .entry)) .pending))))) ⌝ }
+{
+    let Held::Entry(at, _, since, count) = groups::find_pending(region, id) else {
+        return Claimed::NotMoved;
+    };
+    if idle_for(time, since) < least_idle {
+        return Claimed::NotMoved;
+    }
+    if lacks_consumer(region, consumer) {
+        return Claimed::Refused(12);
+    }
+    let place = make_consumer(region, consumer);
+    let row = entry_row(id, place, time, grown(count));
+    octets::copy_in(region, 308 + at * 27, &row);
+    Claimed::Moved
+}
+
+// The consumer goes, and its entries; how many these were, 0 if it is unknown.
+pub fn drop_consumer(region: &mut [u8], consumer: &[u8]) -> u64
+    requires { ⌜ SoundRegion (now region) ⌝ }
+    ensures { λ r. ⌜ (r ≡ length (step.pendingOf (now (consumer .entry)) (groupIn (now (region .entry)) .pending))) × (now (region .exit) ≡ regionBytes (step.dropConsumer (now (consumer .entry)) (groupIn (now (region .entry))))) ⌝ }
+{
+    let Place::At(k) = groups::find_consumer(region, consumer) else {
+        return 0;
+    };
+    let gone = remove_entries(region, k);
+    remove_consumer(region, k);
+    gone as u64
+}

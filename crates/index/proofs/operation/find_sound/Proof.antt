@@ -1,0 +1,37 @@
+-- `find_sound` meets its contract: on the tree of a record that holds entries the walk is the lookup. Assumes nothing.
+use mathlib.Core.Bool.{Bool, true, false}
+use mathlib.Core.Path.{_≡_, refl, sym, ap, _∙_}
+use mathlib.Core.List.{List}
+use mathlib.Core.Option.{some, none}
+use Prim.Native.Nat.{ℕ, _<_, _≤_}
+use native.Mathlib.Omega.{arith}
+use borrow.Author.Needs.{needs}
+use borrow.Author.Tests.{not-true, not-false}
+use Rattle.index.specs.declared.Found.{Found}
+use Rattle.index.specs.Entries.{isKey}
+use Rattle.index.specs.Operation.{find, valueReply}
+use Rattle.index.specs.Answer.{foundOf}
+use Rattle.index.proofs.Steps.{sound-root, find-3, find-is}
+use Rattle.index.proofs.operation.find_sound.Statement.{statement}
+use Rattle.index.proofs.operation.find_sound.Tie as tie
+
+key : (c : tie.Else1) → isKey (c.before.before.before .args .k .now) ≡ true
+key c = sym (c.before .is-key .ensures) ∙ not-false _ (c .if1 .left)
+
+pub find-sound-spec : {M : Type 1} → statement M
+find-sound-spec =
+    tie.close
+    (tie.spec
+    (λ c κs. search needs)
+    (λ c. find-3 (c.before.before.before .args .t1) (c.before.before.before .args .k .now) (c.before.before.before .pre) (sym (c.before .is-key .ensures) ∙ not-true _ (c .if1 .taken)))
+    (λ c κs. search needs)
+    (λ c κs. omega (arith, sound-root (c.before.before.before.before.before.before .args .t1) (c.before.before.before.before.before.before .pre), c.before.before .wide-link .ensures .0))
+    (λ c κs. search needs)
+    (λ c. search needs)
+    (λ c. search needs)
+    (λ c.
+    find-is (c.before.before.before.before.before.before.before.before.before.before.before.before.before.before.before.before.before.before .args .t1) (c.before.before.before.before.before.before.before.before.before.before.before.before.before.before.before.before.before.before .args .k .now) (c.before.before.before.before.before.before.before.before.before.before.before.before.before.before .wide-link .result) (c.before.before.before.before.before.before.before.before.before.before.before .link-at .result) _ (foundOf (c.before.before.before .find-from .result)) (c.before.before.before.before.before.before.before.before.before.before.before.before.before.before.before.before.before.before .pre) (key c.before.before.before.before.before.before.before.before.before.before.before.before.before.before.before)
+    (c.before.before.before.before.before.before.before.before.before.before.before.before.before.before .wide-link .ensures .0) (c.before.before.before.before.before.before.before.before.before.before.before .link-at .ensures .0) (sym (ap (λ (f : Found). valueReply (foundOf f)) (c.before .f .given .1))) (c.before.before.before .find-from .ensures))
+    (λ c.
+    find-is (c.before.before.before.before.before.before.before.before.before.before.before.before.before.before.before.before.before .args .t1) (c.before.before.before.before.before.before.before.before.before.before.before.before.before.before.before.before.before .args .k .now) (c.before.before.before.before.before.before.before.before.before.before.before.before.before .wide-link .result) (c.before.before.before.before.before.before.before.before.before.before .link-at .result) _ (foundOf (c.before.before .find-from .result)) (c.before.before.before.before.before.before.before.before.before.before.before.before.before.before.before.before.before .pre) (key c.before.before.before.before.before.before.before.before.before.before.before.before.before.before)
+    (c.before.before.before.before.before.before.before.before.before.before.before.before.before .wide-link .ensures .0) (c.before.before.before.before.before.before.before.before.before.before .link-at .ensures .0) (sym (ap (λ (f : Found). valueReply (foundOf f)) (c .enum-told .given .1))) (c.before.before .find-from .ensures)))

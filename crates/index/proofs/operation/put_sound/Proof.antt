@@ -1,0 +1,25 @@
+-- `put_sound` meets its contract. Assumes nothing.
+use mathlib.Core.Bool.{Bool, true, false}
+use mathlib.Core.Path.{_≡_, refl, sym, ap, _∙_}
+use mathlib.Core.List.{List}
+use mathlib.Core.Option.{some, none}
+use Prim.Native.Nat.{ℕ, _<_, _≤_}
+use native.Mathlib.Omega.{arith}
+use borrow.Author.Needs.{needs}
+use borrow.Author.Tests.{not-true, not-false}
+use Rattle.index.specs.Operation.{put, remove}
+use Rattle.index.specs.Answer.{tabled, replyOf}
+use Rattle.index.proofs.Steps.{sound-root, sound-listed, changes-some}
+use Rattle.index.proofs.operation.put_sound.Statement.{statement}
+use Rattle.index.proofs.operation.put_sound.Tie as tie
+
+pub put-sound-spec : {M : Type 1} → statement M
+put-sound-spec =
+    tie.close
+    (tie.spec
+    (λ c κs. sound-root (c.before .args .x) (c.before .pre))
+    (λ c κs. sound-listed (c.before.before.before .args .x) (c.before .table-of .result) (c.before.before.before .pre) (c.before .table-of .ensures))
+    (λ c.
+    let x = c.before.before.before.before .args in
+    changes-some (put (x .k .now) (x .v)) (x .x) (tabled (c.before.before .table-of .result .table)) (replyOf (c .put-in .result .answer)) (c .put-in .result .index)
+    (sound-listed (x .x) (c.before.before .table-of .result) (c.before.before.before.before .pre) (c.before.before .table-of .ensures)) (c .put-in .ensures)))

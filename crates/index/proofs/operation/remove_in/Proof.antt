@@ -1,0 +1,75 @@
+-- `remove_in` meets its contract. Assumes nothing.
+use mathlib.Core.Bool.{Bool, true, false}
+use mathlib.Core.Path.{_≡_, refl, sym, ap, _∙_}
+use mathlib.Core.List.{List}
+use mathlib.Core.Option.{some}
+use Prim.Native.Nat.{ℕ, _+_, _^_, _<_, _≤_}
+use native.Mathlib.Omega.{arith}
+use borrow.Author.Needs.{needs}
+use borrow.Author.Tests.{lt-leb, le-leb, not-true, not-false}
+use lib.ListN.{length}
+use Rattle.index.specs.Entries.{Entry, isKey, isMap, has}
+use Rattle.index.specs.Rank.{rank}
+use Rattle.index.specs.Operation.{put, remove}
+use Rattle.index.specs.Table.{Columns, columns, rowsFrom}
+use Rattle.index.specs.Layout.{recordOf}
+use Rattle.index.specs.Answer.{tabled, replyOf}
+use Rattle.index.proofs.Fits.{map-length, map-rising, key-short}
+use Rattle.index.proofs.Kept.{map-without}
+use Rattle.index.proofs.Positions.{rank-most, rank-held}
+use Rattle.index.proofs.Rows.{length-rows}
+use Rattle.index.proofs.Laws.{entries-map}
+use Rattle.index.proofs.Steps.{is-held, gone-rows, remove-3, remove-none, remove-one}
+use Rattle.index.proofs.operation.remove_in.Statement.{statement}
+use Rattle.index.proofs.operation.remove_in.Tie as tie
+
+abbrev table : tie.Start → Columns
+table s = let t = s .args .t in columns (t .len) (t .val) (t .key)
+
+map : (s : tie.Start) → isMap (rowsFrom (table s) 0 (s .args .t .n)) ≡ true
+map s = entries-map (s .args .x) (tabled (s .args .t)) (s .pre)
+
+few : (s : tie.Start) → s .args .t .n ≤ 64
+few s = omega (arith, map-length (rowsFrom (table s) 0 (s .args .t .n)) (map s), length-rows (table s) 0 (s .args .t .n))
+
+key : (c : tie.Else1) → isKey (c.before.before.before .args .k .now) ≡ true
+key c = sym (c.before .is-key .ensures) ∙ not-false _ (c .if1 .left)
+
+-- whether the key is held
+held : (c : tie.After-is-row) → c .is-row .result ≡ has (c.before.before.before.before.before .args .k .now) (rowsFrom (table c.before.before.before.before.before) 0 (c.before.before.before.before.before .args .t .n))
+held c =
+    let x = c.before.before.before.before.before .args in
+    c .is-row .ensures ∙ is-held (table c.before.before.before.before.before) (x .t .n) (x .k .now) (c.before .rank-of .result) (map-rising (rowsFrom (table c.before.before.before.before.before) 0 (x .t .n)) (map c.before.before.before.before.before)) (c.before .rank-of .ensures)
+
+at-most : (c : tie.After-rank-of) → c .rank-of .result ≤ c.before.before.before.before .args .t .n
+at-most c =
+    let x = c.before.before.before.before .args in
+    omega (arith, c .rank-of .ensures, rank-most (x .k .now) (rowsFrom (table c.before.before.before.before) 0 (x .t .n)), length-rows (table c.before.before.before.before) 0 (x .t .n))
+
+below : (c : tie.Then2) → c.before.before .rank-of .result < c.before.before.before.before.before.before .args .t .n
+below c =
+    let x = c.before.before.before.before.before.before .args in
+    let es = rowsFrom (table c.before.before.before.before.before.before) 0 (x .t .n) in
+    omega (arith, c.before.before .rank-of .ensures, rank-held (x .k .now) es (map-rising es (map c.before.before.before.before.before.before)) (sym (held c.before) ∙ c .if2 .taken), length-rows (table c.before.before.before.before.before.before) 0 (x .t .n))
+
+pub remove-in-spec : {M : Type 1} → statement M
+remove-in-spec =
+    tie.close
+    (tie.spec
+    (λ c κs. search needs)
+    (λ c. remove-3 (c.before.before.before .args .x) (tabled (c.before.before.before .args .t)) (c.before.before.before .pre) (c.before.before.before .args .k .now) (sym (c.before .is-key .ensures) ∙ not-true _ (c .if1 .taken)))
+    (λ c κs. few c.before.before.before)
+    (λ c κs. few c.before.before.before.before)
+    (λ c κs. omega (arith, below c, few c.before.before.before.before.before.before))
+    (λ c κs.
+    let x = c.before.before.before.before.before.before.before .args in
+    let es = rowsFrom (table c.before.before.before.before.before.before.before) 0 (x .t .n) in
+    ap isMap (c .without-row .ensures ∙ gone-rows es (map c.before.before.before.before.before.before.before) (x .k .now) (key c.before.before.before.before) (c.before.before.before .rank-of .result) (c.before.before.before .rank-of .ensures) (sym (held c.before.before) ∙ c.before .if2 .taken))
+    ∙ map-without (x .k .now) es (map c.before.before.before.before.before.before.before))
+    (λ c.
+    let x = c.before.before.before.before.before.before.before.before .args in
+    let es = rowsFrom (table c.before.before.before.before.before.before.before.before) 0 (x .t .n) in
+    let h = sym (held c.before.before.before) ∙ c.before.before .if2 .taken in
+    remove-one (x .x) es (c.before.before.before.before.before.before.before.before .pre) (x .k .now) (key c.before.before.before.before.before) (c .build .result) h (map c.before.before.before.before.before.before.before.before)
+    (c .build .ensures ∙ ap recordOf (c.before .without-row .ensures ∙ gone-rows es (map c.before.before.before.before.before.before.before.before) (x .k .now) (key c.before.before.before.before.before) (c.before.before.before.before .rank-of .result) (c.before.before.before.before .rank-of .ensures) h)))
+    (λ c. let x = c.before.before.before.before.before.before .args in remove-none (x .x) (tabled (x .t)) (c.before.before.before.before.before.before .pre) (x .k .now) (key c.before.before.before) (sym (held c.before) ∙ c .if2 .left)))

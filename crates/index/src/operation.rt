@@ -1,0 +1,179 @@
+// The operations on a record. Refusals in rising order of their numbers: 2, then 3, then 18.
+
+ghost use mathlib.Core.Path.{_≡_};
+ghost use mathlib.Core.Option.{some};
+ghost use Prim.Native.Nat.{_+_, _≤_};
+ghost use lib.ListN.{length};
+ghost use Rattle.index.specs.Entries.{isKey};
+ghost use Rattle.index.specs.Operation.{put, remove, find, operate};
+ghost use Rattle.index.specs.Record.{entriesOf};
+ghost use Rattle.index.specs.Answer.{tabled, replyOf};
+ghost use Rattle.index.specs.Promise.{Answers, Shows, Changes, IsSound};
+use crate::Answer;
+use crate::Changed;
+use crate::Found;
+use crate::Index;
+use crate::Table;
+use crate::build::build;
+use crate::list::list;
+use crate::list::table_of;
+use crate::pool::link_at;
+use crate::pool::wide_link;
+use crate::row::is_row;
+use crate::row::rank_of;
+use crate::row::with_row;
+use crate::row::without_row;
+use crate::seek::find_from;
+
+// A key has 1 to 16 bytes.
+fn is_key(k: &[u8]) -> bool
+    ensures { λ r. ⌜ r ≡ isKey (now (k .entry)) ⌝ }
+{
+    if k.len() < 1 {
+        return false;
+    }
+    k.len() <= 16
+}
+
+// Put, where the table t has the entries of the record x.
+fn put_in(x: Index, t: Table, k: &[u8], v: u32) -> Changed
+    requires { ⌜ entriesOf x ≡ some (tabled t) ⌝ }
+    ensures { λ r. ⌜ Shows (operate (put (now (k .entry)) v) (tabled t)) x (replyOf (r .answer)) (r .index) ⌝ }
+{
+    if !is_key(k) {
+        return Changed {
+            answer: Answer::Refused(3),
+            index: x,
+        };
+    }
+    let n = t.n;
+    let i = rank_of(t, k);
+    if is_row(t, i, k) {
+        let y = build(with_row(t, i, i + 1, k, v));
+        return Changed {
+            answer: Answer::Done,
+            index: y,
+        };
+    }
+    if 64 <= n {
+        return Changed {
+            answer: Answer::Refused(18),
+            index: x,
+        };
+    }
+    let y = build(with_row(t, i, i, k, v));
+    Changed {
+        answer: Answer::Done,
+        index: y,
+    }
+}
+
+// Remove, where the table t has the entries of the record x.
+fn remove_in(x: Index, t: Table, k: &[u8]) -> Changed
+    requires { ⌜ entriesOf x ≡ some (tabled t) ⌝ }
+    ensures { λ r. ⌜ Shows (operate (remove (now (k .entry))) (tabled t)) x (replyOf (r .answer)) (r .index) ⌝ }
+{
+    if !is_key(k) {
+        return Changed {
+            answer: Answer::Refused(3),
+            index: x,
+        };
+    }
+    let i = rank_of(t, k);
+    if is_row(t, i, k) {
+        let y = build(without_row(t, i));
+        return Changed {
+            answer: Answer::Removed(1),
+            index: y,
+        };
+    }
+    Changed {
+        answer: Answer::Removed(0),
+        index: x,
+    }
+}
+
+// An existing key's value is replaced.
+pub fn put(x: Index, k: &[u8], v: u32) -> Changed
+    ensures { λ r. ⌜ Changes (put (now (k .entry)) v) (entriesOf x) x (replyOf (r .answer)) (r .index) ⌝ }
+{
+    let l = list(x);
+    if !l.ok {
+        return Changed {
+            answer: Answer::Refused(2),
+            index: x,
+        };
+    }
+    let t = l.table;
+    put_in(x, t, k, v)
+}
+
+// Answers 1, or 0 where the key is not held.
+pub fn remove(x: Index, k: &[u8]) -> Changed
+    ensures { λ r. ⌜ Changes (remove (now (k .entry))) (entriesOf x) x (replyOf (r .answer)) (r .index) ⌝ }
+{
+    let l = list(x);
+    if !l.ok {
+        return Changed {
+            answer: Answer::Refused(2),
+            index: x,
+        };
+    }
+    let t = l.table;
+    remove_in(x, t, k)
+}
+
+// The same for a record that is known to hold entries.
+pub fn put_sound(x: Index, k: &[u8], v: u32) -> Changed
+    requires { ⌜ IsSound (entriesOf x) ⌝ }
+    ensures { λ r. ⌜ Changes (put (now (k .entry)) v) (entriesOf x) x (replyOf (r .answer)) (r .index) ⌝ }
+{
+    let l = table_of(x);
+    let t = l.table;
+    put_in(x, t, k, v)
+}
+
+pub fn remove_sound(x: Index, k: &[u8]) -> Changed
+    requires { ⌜ IsSound (entriesOf x) ⌝ }
+    ensures { λ r. ⌜ Changes (remove (now (k .entry))) (entriesOf x) x (replyOf (r .answer)) (r .index) ⌝ }
+{
+    let l = table_of(x);
+    let t = l.table;
+    remove_in(x, t, k)
+}
+
+pub fn find_sound(x: Index, k: &[u8]) -> Answer
+    requires { ⌜ IsSound (entriesOf x) ⌝ }
+    ensures { λ r. ⌜ Answers (find (now (k .entry))) (entriesOf x) (replyOf r) ⌝ }
+{
+    if !is_key(k) {
+        return Answer::Refused(3);
+    }
+    let root = wide_link(x.root);
+    let first = link_at(&x.child, root);
+    let f = find_from(
+        &x.len,
+        &x.key,
+        &x.child,
+        &x.next,
+        &x.val,
+        &x.label,
+        first,
+        k,
+    );
+    match f {
+        Found::Value(v) => Answer::Held(v),
+        Found::Nothing => Answer::Absent,
+    }
+}
+
+// The value of a key, if it is held.
+pub fn find(x: Index, k: &[u8]) -> Answer
+    ensures { λ r. ⌜ Answers (find (now (k .entry))) (entriesOf x) (replyOf r) ⌝ }
+{
+    let l = list(x);
+    if !l.ok {
+        return Answer::Refused(2);
+    }
+    find_sound(x, k)
+}
