@@ -1,16 +1,18 @@
-// Reads operations from standard input, runs each on one group's region, and writes its answer and a checksum of the region.
-// The independent program of the same name under host/ writes the same.
+// Reads operations from standard input, runs each on one group's region or on a groups area, and writes its answer and a checksum of
+// the region or the area. The independent program of the same name under host/ writes the same.
 //
 //     operation   | kind 1 | length 1, name 16 | ID 16 | time 8 | number 8 |      50 bytes, the ID big-endian, the rest little-endian
 //
-// Kind 0 reads a body, which follows, of so many bytes as the number says. Kind 1 judges the region with the byte at the place that the
-// time says changed to the number, by the ID as last ID. The other kinds are operations on a sound region.
+// Kind 0 reads a body, which follows, of so many bytes as the number says. Kinds 1 and 10 judge the region and the area with the byte at
+// the place that the time says changed to the number, by the ID as last ID. Kind 11 puts the region into the area. The other kinds are
+// operations on a sound region, and from 12 on on a sound area.
 
 use groups::Judged;
 use id::Id;
 use libc::STDIN_FILENO;
 
 mod answers;
+mod areas;
 
 ghost use mathlib.Core.Path.{_≡_};
 ghost use Prim.Native.Nat.{_≤_};
@@ -96,7 +98,7 @@ fn operate(region: &mut [u8], operation: &[u8], id: Id, time: u64, number: u64)
     }
 }
 
-fn run(region: &mut [u8], operation: &[u8])
+fn run_region(region: &mut [u8], operation: &[u8])
     requires { ⌜ (length (now region) ≡ 7220) × (length (now operation) ≡ 50) ⌝ }
 {
     let id = id::read_id(operation, 18);
@@ -109,25 +111,44 @@ fn run(region: &mut [u8], operation: &[u8])
     }
 }
 
+fn run_area(area: &mut [u8], region: &[u8], operation: &[u8])
+    requires { ⌜ (length (now area) ≡ 57760) × (length (now region) ≡ 7220) × (length (now operation) ≡ 50) ⌝ }
+{
+    let id = id::read_id(operation, 18);
+    let time = octets::read_le(operation, 34, 8);
+    let number = octets::read_le(operation, 42, 8);
+    match operation[0] {
+        10 => areas::damage(area, time, number, id),
+        11 => areas::place(area, region, number),
+        _ => areas::operate(area, operation, id),
+    }
+}
+
 // The next operation, if there is one.
-fn next_operation(region: &mut [u8]) -> bool
-    requires { ⌜ length (now region) ≡ 7220 ⌝ }
+fn next_operation(region: &mut [u8], area: &mut [u8]) -> bool
+    requires { ⌜ (length (now region) ≡ 7220) × (length (now area) ≡ 57760) ⌝ }
 {
     let mut operation = [0u8; 50];
     if io::read_full(STDIN_FILENO, &mut operation) < OPERATION_BYTES {
         return false;
     }
-    run(region, &operation);
-    answers::show_checksum(b"region", region);
+    if operation[0] < 10 {
+        run_region(region, &operation);
+        answers::show_checksum(b"region", region);
+    } else {
+        run_area(area, region, &operation);
+        answers::show_checksum(b"area", area);
+    }
     true
 }
 
 // As many operations as there are, and at most so many.
 fn main() {
     let mut region = [0u8; 7220];
+    let mut area = [0u8; 57760];
     let mut left: u32 = 100000;
     while 0 < left {
-        if !next_operation(&mut region) {
+        if !next_operation(&mut region, &mut area) {
             return;
         }
         left -= 1;

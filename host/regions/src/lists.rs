@@ -1,20 +1,21 @@
 //! Random lists of operations; the same in every run.
 
 use wallathi_model::generate;
-use wallathi_model::groups::{self, Group, Pending, REGION_BYTES};
+use wallathi_model::groups::{self, Group, Pending, MOST_GROUPS, REGION_BYTES};
 use wallathi_model::id::Id;
+use wallathi_model::image;
 use wallathi_model::message::Name;
 use wallathi_model::rng::Rng;
 
-use crate::operation::{Operation, Region};
+use crate::operation::{Operation, State};
 
 const SEED: u64 = 20_261_116;
-const LISTS: u64 = 90;
+const LISTS: u64 = 80;
 
 /// Makes operations that suit what a region holds, so that answers of every kind come up.
 struct Maker {
     rng: Rng,
-    region: Region,
+    state: State,
     operations: Vec<Operation>,
     /// How many consumers' names there are to choose from.
     names: u64,
@@ -22,12 +23,12 @@ struct Maker {
 
 impl Maker {
     fn add(&mut self, operation: Operation) {
-        self.region.answer(&operation);
+        self.state.answer(&operation);
         self.operations.push(operation);
     }
 
     fn group(&self) -> Option<&Group> {
-        self.region.held.as_ref().map(|(_, group)| group)
+        self.state.held.as_ref().map(|(_, group)| group)
     }
 
     /// A consumer, or a name of 1 to 16 bytes; short ones are prefixes of longer ones.
@@ -115,7 +116,7 @@ impl Maker {
 
     /// A byte in the used parts, or right after them, mostly changed a little.
     fn damage(&mut self) -> Operation {
-        let bytes = self.region.bytes();
+        let bytes = self.state.bytes();
         let (consumers, pending) =
             self.group().map_or((0, 0), |group| (group.consumers.len(), group.pending.len()));
         let place = match self.rng.below(8) {
@@ -152,6 +153,49 @@ impl Maker {
             _ => body[place] = body[place].wrapping_add(1),
         }
         Operation::Read { body }
+    }
+
+    /// One of some 12 names.
+    fn group_name(&mut self) -> Name {
+        let number = self.rng.below(12);
+        vec![b'a' + (number % 5) as u8; 1 + (number * 5 % 16) as usize]
+    }
+
+    fn area_operation(&mut self) -> Operation {
+        let group = self.group_name();
+        match self.rng.below(20) {
+            0..=7 => Operation::Create { group, start: Id::new(self.rng.below(9), self.rng.next()) },
+            8..=11 => Operation::Destroy { group },
+            12..=13 => Operation::FindGroup { group },
+            14..=16 => self.area_damage(),
+            _ => self.place(),
+        }
+    }
+
+    /// A byte near the front of a part of a region, mostly changed a little.
+    fn area_damage(&mut self) -> Operation {
+        let bytes = image::regions(&self.state.groups);
+        let region = self.rng.size_below((self.state.groups.len() + 1).min(MOST_GROUPS));
+        let part = *self.rng.pick(&[0, 0, 17, 33, 306, 308]);
+        let place = region * REGION_BYTES + part + self.rng.size_below(20);
+        let byte = match self.rng.below(4) {
+            0 => 0,
+            1 => self.rng.byte(),
+            2 => bytes[place].wrapping_sub(1),
+            _ => bytes[place].wrapping_add(1),
+        };
+        let last = Id::new(self.rng.below(20), 0);
+        Operation::DamageArea { place, byte, last: if self.rng.one_in(2) { last } else { Id::GREATEST } }
+    }
+
+    /// Mostly a group of the name that stands at the place, and read into the region first.
+    fn place(&mut self) -> Operation {
+        let place = self.rng.size_below(MOST_GROUPS);
+        if let Some(name) = self.state.groups.keys().nth(place).cloned() {
+            let group = small(filled(&mut self.rng, 3, 9));
+            self.add(Operation::Read { body: groups::body(&name, &group) });
+        }
+        Operation::Place { place }
     }
 
     /// The group that a list starts with.
@@ -191,10 +235,10 @@ fn small(mut group: Group) -> Group {
     group
 }
 
-/// All operations: lists of some 90 each, each from a group of its own, and bodies that are damaged.
+/// All operations: lists of some 90 on a region, each from a group of its own, with bodies that are damaged,
+/// and some on the area after each.
 pub fn operations() -> Vec<Operation> {
-    let mut maker =
-        Maker { rng: Rng::new(SEED), region: Region::default(), operations: Vec::new(), names: 1 };
+    let mut maker = Maker { rng: Rng::new(SEED), state: State::default(), operations: Vec::new(), names: 1 };
     maker.add(Operation::Damage { place: 0, byte: 0, last: Id::LEAST });
     maker.add(Operation::Body);
     for list in 0..LISTS {
@@ -208,6 +252,10 @@ pub fn operations() -> Vec<Operation> {
         maker.add(Operation::Find { consumer: name, id: Id::new(7, 3) });
         for _ in 0..3 {
             let operation = maker.damaged_body();
+            maker.add(operation);
+        }
+        for _ in 0..25 {
+            let operation = maker.area_operation();
             maker.add(operation);
         }
     }

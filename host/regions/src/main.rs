@@ -1,5 +1,5 @@
-//! Runs random operations on a consumer group's region and prints, for each, its answer and a checksum of the
-//! region. With the argument `input` it writes the operations, as the proved program reads them. The
+//! Runs random operations on a consumer group's region and on a groups area and prints, for each, its answer
+//! and a checksum of the region or the area. With the argument `input` it writes the operations, as the proved program reads them. The
 //! list is the same in every run.
 
 use std::io::Write;
@@ -7,15 +7,15 @@ use std::io::Write;
 mod lists;
 mod operation;
 
-use operation::Region;
+use operation::State;
 
 fn input() -> Vec<u8> {
     lists::operations().iter().flat_map(|operation| operation.bytes()).collect()
 }
 
 fn lines() -> Vec<String> {
-    let mut region = Region::default();
-    lists::operations().iter().flat_map(|operation| region.answer(operation)).collect()
+    let mut state = State::default();
+    lists::operations().iter().flat_map(|operation| state.answer(operation)).collect()
 }
 
 fn main() -> std::io::Result<()> {
@@ -37,7 +37,8 @@ mod tests {
     #[test]
     fn answers_of_every_kind_come_up() {
         let lines = lines();
-        assert!(lists::operations().len() > 8_000);
+        assert!(count(&lines, "region") > 7_000);
+        assert!(count(&lines, "area") > 1_500);
         for (start, least) in [
             ("done", 1_500),
             ("refused 12", 50),
@@ -60,6 +61,14 @@ mod tests {
             ("free", 1),
             ("sound", 100),
             ("bad", 300),
+            ("created", 100),
+            ("refused 10", 50),
+            ("refused 11", 50),
+            ("destroyed", 50),
+            ("no group", 50),
+            ("group", 50),
+            ("placed", 100),
+            ("not placed", 20),
         ] {
             assert!(count(&lines, start) >= least, "{start}: {}", count(&lines, start));
         }
@@ -67,7 +76,7 @@ mod tests {
 
     #[test]
     fn the_files_are_small() {
-        assert!(input().len() < 1_000_000, "{}", input().len());
-        assert!(lines().join("\n").len() < 1_000_000, "{}", lines().join("\n").len());
+        assert!(input().len() < 1_000_000);
+        assert!(lines().join("\n").len() < 1_000_000);
     }
 }

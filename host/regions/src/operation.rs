@@ -1,11 +1,14 @@
-//! An operation on a region: its bytes for the proved program, and what the model answers.
+//! An operation on a region or an area: its bytes for the proved program, and what the model answers.
 //!
 //! ```text
 //! operation   kind (1) | name length (1) | name (16) | ID (16, BE) | time (8, LE) | number (8, LE)
 //! ```
 
-use wallathi_model::groups::{self, Group, REGION_BYTES};
+use std::collections::BTreeMap;
+
+use wallathi_model::groups::{self, Group, MOST_GROUPS, REGION_BYTES};
 use wallathi_model::id::Id;
+use wallathi_model::image;
 use wallathi_model::message::{Name, LONGEST_NAME};
 
 #[derive(Clone, Debug)]
@@ -50,6 +53,26 @@ pub enum Operation {
     },
     /// The group's body: its size, its bytes, and the region that is read of it.
     Body,
+    /// A byte of the area is changed, the area judged, and the byte put back.
+    DamageArea {
+        place: usize,
+        byte: u8,
+        last: Id,
+    },
+    /// The region takes a place in the area, if that stays sound.
+    Place {
+        place: usize,
+    },
+    Create {
+        group: Name,
+        start: Id,
+    },
+    Destroy {
+        group: Name,
+    },
+    FindGroup {
+        group: Name,
+    },
 }
 
 impl Operation {
@@ -70,6 +93,13 @@ impl Operation {
             Operation::NextPending { consumer, after } => fields(7, consumer, *after, 0, 0),
             Operation::Find { consumer, id } => fields(8, consumer, *id, 0, 0),
             Operation::Body => fields(9, any, Id::LEAST, 0, 0),
+            Operation::DamageArea { place, byte, last } => {
+                fields(10, any, *last, *place as u64, u64::from(*byte))
+            }
+            Operation::Place { place } => fields(11, any, Id::LEAST, 0, *place as u64),
+            Operation::Create { group, start } => fields(12, group, *start, 0, 0),
+            Operation::Destroy { group } => fields(13, group, Id::LEAST, 0, 0),
+            Operation::FindGroup { group } => fields(14, group, Id::LEAST, 0, 0),
         }
     }
 }
@@ -84,13 +114,14 @@ fn fields(kind: u8, name: &[u8], id: Id, time: u64, number: u64) -> Vec<u8> {
     bytes
 }
 
-/// What a region holds; nothing where it is free.
+/// What a region and an area hold; nothing where the region is free.
 #[derive(Default)]
-pub struct Region {
+pub struct State {
     pub held: Option<(Name, Group)>,
+    pub groups: BTreeMap<Name, Group>,
 }
 
-impl Region {
+impl State {
     pub fn bytes(&self) -> Vec<u8> {
         match &self.held {
             Some((name, group)) => groups::region(name, group),
@@ -98,8 +129,11 @@ impl Region {
         }
     }
 
-    /// The lines of an operation's answer, the checksum of the region last.
+    /// The lines of an operation's answer, the checksum of the region or of the area last.
     pub fn answer(&mut self, operation: &Operation) -> Vec<String> {
+        if let Some(line) = self.answer_of_area(operation) {
+            return vec![line, format!("area {}", checksum(&image::regions(&self.groups)))];
+        }
         let mut lines = match operation {
             Operation::Read { body } => vec![self.read(body)],
             Operation::Damage { place, byte, last } => {
@@ -114,6 +148,46 @@ impl Region {
         };
         lines.push(format!("region {}", checksum(&self.bytes())));
         lines
+    }
+
+    /// None where the operation is one on the region.
+    fn answer_of_area(&mut self, operation: &Operation) -> Option<String> {
+        let line = match operation {
+            Operation::DamageArea { place, byte, last } => {
+                let mut bytes = image::regions(&self.groups);
+                bytes[*place] = *byte;
+                if image::read_groups(&bytes, *last).is_ok() { "sound" } else { "bad" }.to_string()
+            }
+            Operation::Place { place } => self.place(*place).to_string(),
+            Operation::Create { group, .. } if self.groups.contains_key(group) => "refused 10".to_string(),
+            Operation::Create { .. } if self.groups.len() == MOST_GROUPS => "refused 11".to_string(),
+            Operation::Create { group, start } => {
+                self.groups.insert(group.clone(), Group::new(*start));
+                "created".to_string()
+            }
+            Operation::Destroy { group } => {
+                let gone = self.groups.remove(group).is_some();
+                if gone { "destroyed" } else { "no group" }.to_string()
+            }
+            Operation::FindGroup { group } => {
+                let place = self.groups.keys().position(|name| name == group);
+                place.map_or("no group".to_string(), |place| format!("group {place}"))
+            }
+            _ => return None,
+        };
+        Some(line)
+    }
+
+    fn place(&mut self, place: usize) -> &'static str {
+        let mut bytes = image::regions(&self.groups);
+        bytes[place * REGION_BYTES..][..REGION_BYTES].copy_from_slice(&self.bytes());
+        match image::read_groups(&bytes, Id::GREATEST) {
+            Ok(groups) => {
+                self.groups = groups;
+                "placed"
+            }
+            Err(_) => "not placed",
+        }
     }
 
     fn read(&mut self, body: &[u8]) -> String {
@@ -167,7 +241,7 @@ impl Region {
                     format!("back {}", checksum(&back.expect("a body"))),
                 ]
             }
-            Operation::Read { .. } | Operation::Damage { .. } => unreachable!("answered for any region"),
+            _ => unreachable!("answered for any region, or by the area"),
         }
     }
 }
