@@ -7,7 +7,7 @@
 --   Groups    the rules of the groups, one by one
 pub use Rattle.group_area.proofs.Read.{length-area-bytes, area-parse, AreaRead, area-bytes}
 pub use Rattle.group_area.proofs.Laid.{region-at, region-free, region-put}
-pub use Rattle.group_area.proofs.Lent.{groups-greatest, groups-of-area, sound-area, ParsedArea, parsed-area, sound-parse, FoundGroup, found-group, absent-group, found-kept, find-put, find-put-other, find-without-other}
+pub use Rattle.group_area.proofs.Lent.{groups-greatest, groups-of-area, sound-area, ParsedArea, parsed-area, judged-area, sound-parse, FoundGroup, found-group, absent-group, found-kept, find-put, find-put-other, find-without-other}
 pub use Rattle.group_area.proofs.Found.{sound-size}
 pub use Rattle.group_area.proofs.Changed.{put-kept, new-kept, without-kept, new-is-group, new-up-to}
 pub use Rattle.group_area.proofs.Groups.{First, first, joined, Sound, sound, are-sound}

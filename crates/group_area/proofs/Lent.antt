@@ -1,12 +1,13 @@
 -- What a caller of the area knows: when it is sound, the region that it may lend on, and what becomes of the others. Assumes nothing.
 use mathlib.Core.Path.{_≡_, refl, sym, ap, ap₂, _∙_, subst}
-use mathlib.Core.Bool.{Bool, true, false}
+use mathlib.Core.Bool.{Bool, true, false, not}
 use mathlib.Core.List.{List, [], _∷_, _++_}
 use mathlib.Core.Option.{Option, some, none}
 use Prim.Native.Nat.{ℕ, _+_, _-_, _*_, _≤_, _<_}
 use native.Mathlib.Omega.{arith}
 use lib.ListN.{length}
 use Rattle.octets.specs.Pick.{pick, both}
+use Rattle.octets.specs.Maybe.{isNone}
 use Rattle.octets.specs.Bytes.{Bytes, zeros}
 use Rattle.octets.specs.Place.{area, put}
 use Rattle.octets.specs.Compare.{same}
@@ -80,6 +81,14 @@ parsed-area last s gs b e =
       sound = subst SoundArea (sym (r .bytes)) (sound-area last gs (r .rules-kept));
       rules-kept = r .rules-kept;
     }
+
+-- what is judged sound is
+judged-case : (last : Id) (s : List ℕ) (o : Option (List Group)) → Bytes s → parseArea last s ≡ o → not (isNone o) ≡ true → SoundArea s
+judged-case last s none b e h = absurd (let z : _≡_ {A = ℕ} 0 1 = cc in omega arith)
+judged-case last s (some gs) b e h = parsed-area last s gs b e .sound
+
+pub judged-area : (last : Id) (s : List ℕ) → Bytes s → not (isNone (parseArea last s)) ≡ true → SoundArea s
+judged-area last s b h = judged-case last s (parseArea last s) b refl h
 
 pub sound-parse : (last : Id) (s : List ℕ) → SoundArea s → isGroups last (groupsIn s) ≡ true → parseArea last s ≡ some (groupsIn s)
 sound-parse last s h e = subst (λ (l : List ℕ). parseArea last l ≡ some (groupsIn s)) (sym (h .laid)) (area-parse last (groupsIn s) e)

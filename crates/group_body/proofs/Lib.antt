@@ -2,3 +2,4 @@ pub mod Laws
 mod Packed
 mod Tested
 mod Outward
+mod Inward

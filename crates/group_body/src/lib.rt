@@ -2,8 +2,10 @@
 // of the crate groups, what is read of them in specs/Parse there, what each function answers in specs/Answer.
 
 mod checking;
+mod reading;
 mod writing;
 
 pub use checking::check_body;
+pub use reading::read_body;
 pub use writing::body_size;
 pub use writing::write_body;

@@ -1,0 +1,49 @@
+-- `operate` meets what it calls asks: what is judged sound is. Assumes nothing.
+use mathlib.Core.Path.{_≡_, sym, ap, _∙_}
+use Prim.Native.Nat.{ℕ, _+_, _-_}
+use native.Mathlib.Omega.{arith}
+use lib.ListN.{length, take, drop}
+use Rattle.octets.specs.Bytes.{Bytes}
+use Rattle.octets.proofs.Laws.{length-area}
+use Rattle.groups.specs.Answer.{SoundRegion}
+use Rattle.groups.proofs.Laws.{part-is, judged-sound}
+use borrow.Author.Needs.{needs}
+use Rattle.regions.proofs.operate.Statement.{statement}
+use Rattle.regions.proofs.operate.Tie as tie
+
+sound : (c : tie.After-enum-told2) → SoundRegion (c .before .before .before .before .before .before .before .before .before .before .args .region .now)
+sound c =
+    let bytes : Bytes (c .before .before .before .before .before .before .before .before .before .before .args .region .now) = record { byte = λ j. c .before .before .before .before .before .before .before .before .before .slice-known .given j .fits } in
+    judged-sound _ (c .before .before .before .before .before .before .before .before .before .before .args .region .now) bytes (sym (c .before .before .judge .ensures) ∙ c .enum-told2 .given .1) .sound
+
+pub operate-spec : {M : Type 1} → statement M
+operate-spec =
+    tie.close
+    (tie.spec
+    (λ c. search needs)
+    (λ c κs. search needs)
+    (λ c. search needs)
+    (λ c. search needs)
+    (λ c κs. search needs)
+    (λ c. search needs)
+    (λ c. search needs)
+    (λ c κs. search needs)
+    (λ c. search needs)
+    (λ c. search needs)
+    (λ c. search needs)
+    (λ c. search needs)
+    (λ c. search needs)
+    (λ c. search needs)
+    (λ c κs. let n : ℕ = c .before .before .before .before .before .before .before .before .before .wide .result in
+    let q : length (take (2 + n - 2) (drop 2 (c .before .before .before .before .before .before .before .before .before .before .before .before .before .args .operation .now))) ≡ n =
+    ap length (part-is 2 n (c .before .before .before .before .before .before .before .before .before .before .before .before .before .args .operation .now)) ∙ length-area 2 n (c .before .before .before .before .before .before .before .before .before .before .before .before .before .args .operation .now) (omega arith) in
+    (sound (c .before .before .before), omega (arith, q), omega (arith, q)))
+    (λ c. search needs)
+    (λ c. search needs)
+    (λ c κs. search needs)
+    (λ c. search needs)
+    (λ c. search needs)
+    (λ c. search needs)
+    (λ c. search needs)
+    (λ c. search needs)
+    (λ c. search needs))
