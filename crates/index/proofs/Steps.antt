@@ -15,7 +15,7 @@ use Rattle.octets.specs.Maybe.{isNone}
 use Rattle.octets.specs.Place.{area}
 use Rattle.octets.specs.Compare.{same}
 use Rattle.radix.specs.declared.Index.{Index}
-use Rattle.radix.specs.Entries.{Entry, entry, isKey, isMap, rising, mostKeys, lookup, has, insert, without}
+use Rattle.radix.specs.Entries.{Entry, entry, isKey, isMap, rising, allFit, mostKeys, lookup, has, insert, without}
 use Rattle.index.specs.Operation.{Operation, put, remove, find, valueReply, Reply, refused, done, removed, Replied, stays, putTo, removeFrom, operate}
 use Rattle.radix.specs.Shape.{Shape}
 use Rattle.radix.specs.Walk.{findIn}
@@ -172,3 +172,14 @@ answers-2 o x l e f = subst (λ (w : Option (List Entry)). Answers o w (refused 
 
 pub listed-sound : (x : Index) (l : Listed) → listedOf l ≡ entriesOf x → l .ok ≡ true → IsSound (entriesOf x)
 listed-sound x l e f = subst⁻¹ IsSound (some-listed x l e f) tt
+
+-- no entries
+no-entries : isMap [] ≡ true
+unfolding isMap rising allFit
+no-entries = refl
+
+pub none-map : (es : List Entry) → es ≡ [] → isMap es ≡ true
+none-map es e = ap isMap e ∙ no-entries
+
+pub empty-holds : (x : Index) (es : List Entry) → es ≡ [] → x ≡ recordOf es → entriesOf x ≡ some []
+empty-holds x es e f = ap entriesOf (f ∙ ap recordOf e) ∙ record-back [] no-entries

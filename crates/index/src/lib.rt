@@ -1,8 +1,14 @@
 // A radix index of up to 64 keys of 1 to 16 bytes. What it answers is said in specs/.
 
+mod adjoining;
 mod operation;
 mod row;
 
+pub use adjoining::first_at_or_above;
+pub use adjoining::first_at_or_above_sound;
+pub use adjoining::last_at_or_below;
+pub use adjoining::last_at_or_below_sound;
+pub use operation::empty;
 pub use operation::find;
 pub use operation::find_sound;
 pub use operation::put;
@@ -24,4 +30,19 @@ pub enum Answer {
 pub struct Changed {
     pub answer: Answer,
     pub index: Index,
+}
+
+// Whether a key has a neighbour.
+pub enum Outcome {
+    Found,
+    Nothing,
+    Refused(u32),
+}
+
+// The neighbour of a key, where one was found: the first len bytes of key, and its value.
+pub struct Neighbour {
+    pub outcome: Outcome,
+    pub len: usize,
+    pub value: u32,
+    pub key: [u8; 16],
 }

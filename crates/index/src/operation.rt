@@ -1,6 +1,7 @@
 // The operations on a record. Refusals in rising order of their numbers: 2, then 3, then 18.
 
 ghost use mathlib.Core.Path.{_≡_};
+ghost use mathlib.Core.List.{[]};
 ghost use mathlib.Core.Option.{some};
 ghost use Prim.Native.Nat.{_+_, _≤_};
 ghost use lib.ListN.{length};
@@ -13,6 +14,7 @@ ghost use Rattle.index.specs.Promise.{Answers, Shows, Changes, IsSound};
 use crate::Answer;
 use crate::Changed;
 use crate::row::is_row;
+use crate::row::no_rows;
 use crate::row::rank_of;
 use crate::row::with_row;
 use crate::row::without_row;
@@ -20,8 +22,15 @@ use radix::Found;
 use radix::Index;
 use radix::Table;
 
+// The record of no entries.
+pub fn empty() -> Index
+    ensures { λ r. ⌜ entriesOf r ≡ some [] ⌝ }
+{
+    radix::build(no_rows())
+}
+
 // A key has 1 to 16 bytes.
-fn is_key(k: &[u8]) -> bool
+pub fn is_key(k: &[u8]) -> bool
     ensures { λ r. ⌜ r ≡ isKey (now (k .entry)) ⌝ }
 {
     if k.len() < 1 {

@@ -16,7 +16,7 @@ ghost use Rattle.radix.specs.Answer.{tabled};
 use octets::Order;
 use radix::Table;
 
-fn no_rows() -> Table
+pub fn no_rows() -> Table
     ensures { λ r. ⌜ (tabled r ≡ []) × (r .n ≡ 0) ⌝ }
 {
     Table {
