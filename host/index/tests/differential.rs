@@ -46,12 +46,11 @@ fn the_record_is_laid_out_as_the_model_says() {
 
 /// In phases an index fills up, changes and empties again.
 fn operation(rng: &mut Rng, kind: &Kind, index: &Index, phase: usize) -> Operation {
-    let puts = [60, 30, 10][phase % 3];
-    let removes = [5, 20, 50][phase % 3];
-    let key = if phase % 3 == 0 && rng.one_in(2) { kind.key(rng) } else { kind.asked(rng, index) };
+    let (puts, removes, fills) = [(60, 65, true), (30, 50, false), (10, 60, false)][phase % 3];
+    let key = if fills && rng.one_in(2) { kind.key(rng) } else { kind.asked(rng, index) };
     match rng.below(100) {
         chance if chance < puts => Operation::Put { key, value: rng.next() as u32 >> rng.below(32) },
-        chance if chance < puts + removes => Operation::Remove { key },
+        chance if chance < removes => Operation::Remove { key },
         chance if chance % 3 == 0 => Operation::Find { key },
         chance if chance % 3 == 1 => Operation::FirstAtOrAbove { key, room: room(rng) },
         _ => Operation::LastAtOrBelow { key, room: room(rng) },
@@ -162,50 +161,48 @@ fn each_byte_changed() {
     assert!(accepted > 100, "{accepted}");
 }
 
-/// Whole fields are changed: links to any place, two places exchanged in part, lengths and labels moved.
+/// Changes a whole field of a place in use: a link to any place, a part exchanged with another place's, a label cut short.
+fn change_a_field(rng: &mut Rng, record: &mut [u8], places: &[usize]) {
+    let (a, b) = (*rng.pick(places), *rng.pick(places));
+    match rng.below(8) {
+        0 => Field::CHILD.set(record, a, 1 + b),
+        1 => Field::NEXT.set(record, a, 1 + b),
+        2 => {
+            let link = *rng.pick(&[0, 1, 255, 256, 257, 258, 65_535]);
+            rng.pick(&[Field::CHILD, Field::NEXT]).set(record, a, link);
+        }
+        3 => Field::ROOT.set(record, 0, *rng.pick(&[a, 0, 255, 256, 257, 65_535])),
+        4 => {
+            let field = *rng.pick(&[Field::LEN, Field::KEY, Field::CHILD, Field::NEXT, Field::VAL]);
+            field.at(a).zip(field.at(b)).for_each(|(a, b)| record.swap(a, b));
+        }
+        5 => Field::LABEL.at(a).zip(Field::LABEL.at(b)).for_each(|(a, b)| record.swap(a, b)),
+        6 => {
+            // A key less, or one more.
+            let is_key = Field::KEY.get(record, a) == 1;
+            Field::KEY.set(record, a, usize::from(!is_key));
+            if is_key {
+                Field::VAL.set(record, a, 0);
+            }
+        }
+        _ => {
+            let length = Field::LEN.get(record, a).saturating_sub(1);
+            Field::LEN.set(record, a, length);
+            record[Field::LABEL.at(a)][length.min(15)..].fill(0);
+        }
+    }
+}
+
 #[test]
 fn changed_fields() {
     const TURNS: usize = 12_000;
-    let fields = [Field::LEN, Field::KEY, Field::CHILD, Field::NEXT, Field::VAL];
     let mut rng = Rng::new(1_004);
     let mut damaged = 0;
     for turn in 0..TURNS {
         let kind = &KINDS[turn % KINDS.len()];
-        let (index, places, mut record) =
-            relocated(&mut rng, kind, if turn % 2 == 0 { 5 } else { MOST_KEYS });
-        for _ in 0..1 + rng.below(2) {
-            let (a, b) = (*rng.pick(&places), *rng.pick(&places));
-            match rng.below(8) {
-                0 => Field::CHILD.set(&mut record, a, 1 + b),
-                1 => Field::NEXT.set(&mut record, a, 1 + b),
-                2 => {
-                    let link = *rng.pick(&[0, 1, 255, 256, 257, 258, 65_535]);
-                    rng.pick(&[Field::CHILD, Field::NEXT]).set(&mut record, a, link);
-                }
-                3 => Field::ROOT.set(&mut record, 0, *rng.pick(&[a, 0, 255, 256, 257, 65_535])),
-                4 => {
-                    let field = *rng.pick(&fields);
-                    let (one, other) = (field.get(&record, a), field.get(&record, b));
-                    field.set(&mut record, a, other);
-                    field.set(&mut record, b, one);
-                }
-                5 => Field::LABEL.at(a).zip(Field::LABEL.at(b)).for_each(|(a, b)| record.swap(a, b)),
-                6 => {
-                    // A node without its key, or a key where there was none.
-                    let flag = Field::KEY.get(&record, a);
-                    Field::KEY.set(&mut record, a, 1 - flag.min(1));
-                    if flag != 0 {
-                        Field::VAL.set(&mut record, a, 0);
-                    }
-                }
-                _ => {
-                    let shorter = Field::LEN.get(&record, a).saturating_sub(1);
-                    Field::LEN.set(&mut record, a, shorter);
-                    let start = Field::LABEL.at(a).start;
-                    record[start + shorter.min(15)] = 0;
-                }
-            }
-        }
+        let most = if turn % 2 == 0 { 5 } else { MOST_KEYS };
+        let (index, places, mut record) = relocated(&mut rng, kind, most);
+        (0..1 + rng.below(2)).for_each(|_| change_a_field(&mut rng, &mut record, &places));
         damaged += usize::from(judge(&mut rng, kind, &mut record, &index));
     }
     assert!((TURNS / 2..TURNS * 99 / 100).contains(&damaged), "{damaged}");

@@ -78,23 +78,26 @@ fn filled<S: Side>(keys: &[Key]) -> S {
     side
 }
 
-/// Runs a call on each of so many copies; the time of a call in ns. With `only_prepare` there is no call.
+/// A map for each call that changes one: without its key for a put, else with all.
+fn copies<S: Side>(operation: Operation, full: &S, held: &[&Key]) -> Vec<S> {
+    let without = |key: &&Key| {
+        let mut side = full.clone();
+        side.remove(key);
+        side
+    };
+    match operation {
+        Operation::Find | Operation::FirstAtOrAbove | Operation::LastAtOrBelow => vec![],
+        Operation::Replace | Operation::Remove => vec![full.clone(); held.len()],
+        Operation::Put => held.iter().map(without).collect(),
+    }
+}
+
+/// The time of a call in ns, of so many. With `only_prepare` there is no call.
 fn run<S: Side>(operation: Operation, keys: &[Key], calls: usize, only_prepare: bool) -> f64 {
-    let asked = asked(keys);
     let full: S = filled(keys);
     let held: Vec<&Key> = keys.iter().cycle().take(calls).collect();
-    let mut copies: Vec<S> = match operation {
-        Operation::Find | Operation::FirstAtOrAbove | Operation::LastAtOrBelow => vec![],
-        Operation::Replace | Operation::Remove => vec![full.clone(); calls],
-        Operation::Put => {
-            let without = |key: &&Key| {
-                let mut side = full.clone();
-                side.remove(key);
-                side
-            };
-            held.iter().map(without).collect()
-        }
-    };
+    let mut copies = copies(operation, &full, &held);
+    let asked = asked(keys);
     if only_prepare {
         return 0.0;
     }
