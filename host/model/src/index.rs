@@ -4,6 +4,8 @@ use std::collections::BTreeMap;
 
 use crate::refusal::{Refusal, BREAKS_ITS_RULE, TOO_MANY_KEYS};
 
+pub mod record;
+
 pub const LONGEST_KEY: usize = 16;
 pub const MOST_KEYS: usize = 64;
 pub const POOL_NODES: usize = 256;

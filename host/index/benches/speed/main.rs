@@ -1,0 +1,277 @@
+//! Measures the proved index beside a `BTreeMap` and a sorted array, in one run.
+//!
+//! `cargo bench` prints times, `cargo bench -- instructions` counts of executed instructions (it runs
+//! itself under valgrind). See docs/PERFORMANCE.md.
+
+mod sides;
+
+use std::hint::black_box;
+use std::process::Command;
+use std::time::Instant;
+
+use sides::{Proved, Side, Sorted, Tree};
+use wallathi_index::LONGEST_KEY;
+use wallathi_model::rng::Rng;
+
+const SAMPLES: usize = 501;
+/// Calls in a sample: enough that the clock's own cost does not show, few enough that their copies stay
+/// in the cache.
+const CALLS: usize = 64;
+
+#[derive(Clone, Copy)]
+enum Operation {
+    Find,
+    FirstAtOrAbove,
+    LastAtOrBelow,
+    /// A held key gets another value.
+    Replace,
+    /// The last of the keys comes.
+    Put,
+    /// One of the keys goes.
+    Remove,
+}
+
+const OPERATIONS: [(&str, Operation); 6] = [
+    ("find", Operation::Find),
+    ("first at or above", Operation::FirstAtOrAbove),
+    ("last at or below", Operation::LastAtOrBelow),
+    ("put, a held key", Operation::Replace),
+    ("put, a new key", Operation::Put),
+    ("remove", Operation::Remove),
+];
+
+const SETS: [(&str, usize); 4] = [("name", 1), ("names", 8), ("names", 64), ("IDs", 64)];
+
+type Key = Vec<u8>;
+
+/// So many names of stations, or message IDs as the store's index has them.
+fn keys(kind: &str, count: usize) -> Vec<Key> {
+    const WORDS: [&str; 8] =
+        ["Suva", "Hobart", "Honiara", "Port Moresby", "Apia", "Auckland", "Alofi", "Papeete"];
+    let mut rng = Rng::new(64);
+    let key = |number: usize| match kind {
+        "IDs" => {
+            let ms = 1_790_000_000_000 + 97_000 * number as u64;
+            [ms.to_be_bytes(), [0; 8]].concat()
+        }
+        _ => format!("{} {}", WORDS[number % 8], 1 + number / 8).into_bytes(),
+    };
+    let mut keys: Vec<Key> = (0..count).map(key).collect();
+    (0..count).for_each(|place| keys.swap(place, rng.size_below(count)));
+    keys
+}
+
+/// Keys to ask neighbours of: held ones and ones that differ in the last byte.
+fn asked(keys: &[Key]) -> Vec<Key> {
+    let near = |(number, key): (usize, &Key)| {
+        let mut key = key.clone();
+        let last = key.len() - 1;
+        key[last] = key[last].wrapping_add((number % 3) as u8).wrapping_sub(1);
+        key
+    };
+    keys.iter().enumerate().map(near).collect()
+}
+
+fn filled<S: Side>(keys: &[Key]) -> S {
+    let mut side = S::new();
+    keys.iter().zip(1..).for_each(|(key, value)| side.put(key, value));
+    side
+}
+
+/// A map for each call that changes one: without its key for a put, else with all.
+fn copies<S: Side>(operation: Operation, full: &S, held: &[&Key]) -> Vec<S> {
+    let without = |key: &&Key| {
+        let mut side = full.clone();
+        side.remove(key);
+        side
+    };
+    match operation {
+        Operation::Find | Operation::FirstAtOrAbove | Operation::LastAtOrBelow => vec![],
+        Operation::Replace | Operation::Remove => vec![full.clone(); held.len()],
+        Operation::Put => held.iter().map(without).collect(),
+    }
+}
+
+/// The time of a call in ns, of so many. With `only_prepare` there is no call.
+fn run<S: Side>(operation: Operation, keys: &[Key], calls: usize, only_prepare: bool) -> f64 {
+    let full: S = filled(keys);
+    let held: Vec<&Key> = keys.iter().cycle().take(calls).collect();
+    let mut copies = copies(operation, &full, &held);
+    let asked = asked(keys);
+    if only_prepare {
+        return 0.0;
+    }
+    let mut output = [0; LONGEST_KEY];
+    let near = asked.iter().cycle().take(calls);
+    let start = Instant::now();
+    match operation {
+        Operation::Find => held.iter().for_each(|key| {
+            black_box(full.find(black_box(key)));
+        }),
+        Operation::FirstAtOrAbove => near.for_each(|key| {
+            black_box(full.first_at_or_above(black_box(key), &mut output));
+        }),
+        Operation::LastAtOrBelow => near.for_each(|key| {
+            black_box(full.last_at_or_below(black_box(key), &mut output));
+        }),
+        Operation::Replace | Operation::Put => {
+            copies.iter_mut().zip(held).for_each(|(side, key)| side.put(black_box(key), black_box(99)));
+        }
+        Operation::Remove => copies.iter_mut().zip(held).for_each(|(side, key)| {
+            black_box(side.remove(black_box(key)));
+        }),
+    }
+    let time = start.elapsed().as_nanos() as f64 / calls as f64;
+    black_box((&copies, &output));
+    time
+}
+
+/// The same for the validation of a record, which every operation of the proved index begins with.
+fn validate(keys: &[Key], calls: usize, only_prepare: bool) -> f64 {
+    let side: Proved = filled(keys);
+    if only_prepare {
+        return 0.0;
+    }
+    let start = Instant::now();
+    (0..calls).for_each(|_| black_box(&side).validate());
+    start.elapsed().as_nanos() as f64 / calls as f64
+}
+
+fn median(mut samples: Vec<f64>) -> f64 {
+    samples.sort_by(f64::total_cmp);
+    samples[samples.len() / 2]
+}
+
+fn print_head(figure: &str) {
+    let names = [Proved::NAME, Tree::NAME, Sorted::NAME];
+    println!("{figure:34} {:>9} {:>9} {:>13} {:>9} {:>9}", names[0], names[1], names[2], "ratio", "ratio");
+}
+
+fn print_row(name: &str, [proved, tree, sorted]: [f64; 3]) {
+    let ratios = [proved / tree, proved / sorted];
+    println!("{name:34} {proved:9.0} {tree:9.0} {sorted:13.0} {:9.1} {:9.1}", ratios[0], ratios[1]);
+}
+
+/// A figure of each side for each operation on each set of keys, and of the validation.
+fn report(sides: impl Fn(usize, usize) -> [f64; 3], validation: impl Fn(usize) -> f64) {
+    for (set, (kind, count)) in SETS.iter().enumerate() {
+        println!("{:34} {:9.0}", format!("validation, {count} {kind}"), validation(set));
+        for (number, (name, _)) in OPERATIONS.iter().enumerate() {
+            print_row(&format!("{name}, {count} {kind}"), sides(set, number));
+        }
+    }
+}
+
+fn set_keys(set: usize) -> Vec<Key> {
+    keys(SETS[set].0, SETS[set].1)
+}
+
+/// Samples of the sides alternate, so that what disturbs the machine disturbs all.
+fn time() {
+    print_head("median time of a call, ns");
+    let sides = |set: usize, operation: usize| {
+        let (keys, operation) = (set_keys(set), OPERATIONS[operation].1);
+        let mut samples = [vec![], vec![], vec![]];
+        for _ in 0..SAMPLES {
+            samples[0].push(run::<Proved>(operation, &keys, CALLS, false));
+            samples[1].push(run::<Tree>(operation, &keys, CALLS, false));
+            samples[2].push(run::<Sorted>(operation, &keys, CALLS, false));
+        }
+        samples.map(median)
+    };
+    let validation = |set| {
+        let keys = set_keys(set);
+        median((0..SAMPLES).map(|_| validate(&keys, CALLS, false)).collect())
+    };
+    report(sides, validation);
+}
+
+/// How many instructions this program executes for the calls of a side, or for their preparation alone.
+fn collected(words: &[&str]) -> f64 {
+    let program = std::env::current_exe().expect("the program's own path");
+    let run = Command::new("valgrind")
+        .args(["--tool=callgrind", "--callgrind-out-file=/dev/null"])
+        .arg(program)
+        .arg("run")
+        .args(words)
+        .output()
+        .expect("valgrind runs");
+    let told = String::from_utf8_lossy(&run.stderr).into_owned();
+    let count =
+        told.lines().find_map(|line| line.split("Collected :").nth(1)).unwrap_or_else(|| panic!("{told}"));
+    count.trim().parse().expect("a number")
+}
+
+fn instructions() {
+    print_head("instructions of a call");
+    let of = |set: usize, operation: &str, side: &str| {
+        let set = set.to_string();
+        let [calls, prepare] = ["calls", "prepare"].map(|part| collected(&[&set, operation, side, part]));
+        (calls - prepare) / CALLS as f64
+    };
+    let sides = |set: usize, operation: usize| {
+        [Proved::NAME, Tree::NAME, Sorted::NAME].map(|side| of(set, &operation.to_string(), side))
+    };
+    report(sides, |set| of(set, "validation", Proved::NAME));
+}
+
+/// One side's calls, or their preparation, to be counted.
+fn run_one(set: &str, operation: &str, side: &str, only_prepare: bool) {
+    let keys = set_keys(set.parse().expect("a set's number"));
+    if operation == "validation" {
+        validate(&keys, CALLS, only_prepare);
+        return;
+    }
+    let operation = OPERATIONS[operation.parse::<usize>().expect("an operation's number")].1;
+    match side {
+        Proved::NAME => run::<Proved>(operation, &keys, CALLS, only_prepare),
+        Tree::NAME => run::<Tree>(operation, &keys, CALLS, only_prepare),
+        _ => run::<Sorted>(operation, &keys, CALLS, only_prepare),
+    };
+}
+
+/// The sides answer alike.
+fn compare() {
+    for set in 0..SETS.len() {
+        let keys = set_keys(set);
+        let (proved, tree, sorted): (Proved, Tree, Sorted) = (filled(&keys), filled(&keys), filled(&keys));
+        for key in keys.iter().chain(&asked(&keys)) {
+            let found = [proved.find(key), tree.find(key), sorted.find(key)];
+            assert!(found.iter().all(|&value| value == found[0]));
+            let mut outputs = [[0; LONGEST_KEY]; 3];
+            let [a, b, c] = &mut outputs;
+            let above = [
+                proved.first_at_or_above(key, a),
+                tree.first_at_or_above(key, b),
+                sorted.first_at_or_above(key, c),
+            ];
+            assert!(above.iter().all(|&value| value == above[0]));
+            let [a, b, c] = &mut outputs;
+            let below = [
+                proved.last_at_or_below(key, a),
+                tree.last_at_or_below(key, b),
+                sorted.last_at_or_below(key, c),
+            ];
+            assert!(below.iter().all(|&value| value == below[0]));
+            assert!(outputs.iter().all(|&output| output == outputs[0]));
+        }
+    }
+}
+
+fn main() {
+    // `cargo bench` adds a word of its own.
+    let words: Vec<String> = std::env::args().skip(1).filter(|word| word != "--bench").collect();
+    match words.iter().map(String::as_str).collect::<Vec<_>>()[..] {
+        [] => {
+            compare();
+            time();
+        }
+        ["compare"] => compare(),
+        ["instructions"] => instructions(),
+        ["run", set, operation, side, part] => run_one(set, operation, side, part == "prepare"),
+        _ => {
+            eprintln!("usage: cargo bench [-- instructions | -- compare]");
+            std::process::exit(2);
+        }
+    }
+}

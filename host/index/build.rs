@@ -1,0 +1,16 @@
+//! Links libwallathi_index.a from the folder WALLATHI_LIB, by default the one that `rt staticlib` writes to.
+
+use std::env;
+use std::path::PathBuf;
+
+fn main() {
+    let here = PathBuf::from(env::var_os("CARGO_MANIFEST_DIR").expect("cargo sets it"));
+    let folder = match env::var_os("WALLATHI_LIB") {
+        Some(folder) => PathBuf::from(folder),
+        None => here.join("../../target/staticlib"),
+    };
+    println!("cargo:rerun-if-env-changed=WALLATHI_LIB");
+    println!("cargo:rerun-if-changed={}", folder.join("libwallathi_index.a").display());
+    println!("cargo:rustc-link-search=native={}", folder.display());
+    println!("cargo:rustc-link-lib=static=wallathi_index");
+}
