@@ -16,7 +16,7 @@ use Rattle.stream.specs.Command as Command
 use Rattle.snapshot.specs.Command.{Command, onStream, save, load, answersAll}
 use Rattle.examples.specs.Case.{Case, string, listpack, node, snapshot, bytesOf, readIn, Row, row, message}
 use Rattle.node.specs.Message.{areStrings, arePairs}
-use Rattle.node.specs.Slip.{slipPairs, slip, cutString, parsePairs, parseSlip}
+use Rattle.slip.specs.Slip.{slipPairs, slip, cutString, parsePairs, parseSlip}
 use Rattle.stream.specs.LedgerStep.{withoutMessage}
 use Rattle.octets.specs.Bytes.{le, leValue, be, beFrom, beValue}
 use Rattle.octets.specs.Compare.{allZero, same, orderOf}
@@ -45,7 +45,8 @@ use Rattle.groups.specs.Step as Groups
 use Rattle.stream.specs.Cut as Cut
 use Rattle.stream.specs.Image.{nodeOf, nodesOf, freeZero, imageFrom}
 use Rattle.stream.specs.Ledger.{messagesAbove, isLedger}
-use Rattle.stream.specs.LedgerStep.{onSetUp, addAs, clockId, onTrim, onCreate, lacksConsumer, firstAfter, drops}
+use Rattle.stream.specs.LedgerStep.{onSetUp, addAs, clockId, onTrim, onCreate, firstAfter, drops}
+use Rattle.groups.specs.Answer.{lacksConsumer}
 use Rattle.stream.specs.Run.{run, answers}
 use Rattle.stream.specs.Step.{step}
 use Rattle.snapshot.specs.Bytes.{partsOf, contents, bodies, fileOf, snapshotOf}
