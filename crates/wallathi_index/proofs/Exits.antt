@@ -3,20 +3,25 @@ use mathlib.Core.Bool.{Bool, true, false, not, true≢false}
 use mathlib.Core.List.{List, []}
 use mathlib.Core.Option.{Option, some, none}
 use mathlib.Core.Path.{_≡_, refl, sym, ap, _∙_, subst, subst⁻¹}
-use Prim.Native.Nat.{ℕ, zero, suc}
+use Prim.Native.Nat.{ℕ, _<_, _≤_}
 use native.Mathlib.Omega.{arith}
-use borrow.Author.Tests.{eq-eqb, eqb-true}
+use borrow.Author.Tests.{eqb-true, lt-leb, le-leb}
 use lib.Dec.{eqb, leb}
-use lib.ListN.{length}
+use lib.ListN.{length, take}
+use Rattle.octets.specs.Place.{put}
 use Rattle.octets.specs.Pick.{pick, both}
 use Rattle.octets.specs.Maybe.{isNone}
-use Rattle.radix.specs.Entries.{Entry, isKey, mostKeys, lookup, insert}
+use Rattle.radix.specs.Entries.{Entry, entry, isKey, mostKeys, lookup, insert}
 use Rattle.radix.specs.Record.{entriesOf}
 use Rattle.radix.specs.declared.Index.{Index}
 use Rattle.radix_bytes.specs.Bytes.{recordFrom}
 use Rattle.index.specs.Operation.{Operation, Reply, refused, done, removed, value, found, nothing, Replied, stays, putTo, operate}
 use Rattle.index.specs.Promise as promise
-use Rattle.wallathi_index.specs.Export.{codeOf, outOf, isChange, entriesIn, Left, Shows, Follows, Answered, Settled}
+use Rattle.index.specs.Answer.{outcomeReply, neighbourReply}
+use Rattle.index.specs.declared.Outcome.{Outcome}
+use Rattle.index.specs.declared.Outcome.the-variants.{Found}
+use Rattle.index.specs.declared.Neighbour.{Neighbour}
+use Rattle.wallathi_index.specs.Export.{codeOf, outOf, isChange, entriesIn, Left, Shows, Follows, Answered, Settled, Tells, replyIn}
 
 -- what changes no entry changes no field
 kept-same : (a : Reply) (x y : Index) → isChange a ≡ false → promise.Kept a x y → y ≡ x
@@ -79,3 +84,28 @@ pub answered : (c : Operation) (s : List ℕ) (o p code : ℕ) (a : Reply) (x : 
     → code ≡ codeOf a → p ≡ outOf a o → Answered c (entriesIn s) o code p
 answered c s o p code a x e h =
     answered-from c (entriesIn s) o p code a (subst (λ (z : Index). promise.Answers c (entriesOf z) a) e h)
+
+-- a key that does not fit the output, and one that does
+module _ (k : List ℕ) (v : ℕ) (out : List ℕ) (len w : ℕ) where
+  pub tells-8 : length out < length k → Tells (found (entry k v)) out len w 8 out len w
+  tells-8 h =
+      let e : leb (length k) (length out) ≡ false = lt-leb (length k) (length out) h in
+      record { code-is = rw e; out-is = rw e; len-is = rw e; value-is = rw e }
+
+  pub tells-0 : (out′ : List ℕ) (w′ : ℕ) → length k ≤ length out → out′ ≡ put out 0 k → w′ ≡ v → Tells (found (entry k v)) out len w 0 out′ (length k) w′
+  tells-0 out′ w′ h p q =
+      let e : leb (length k) (length out) ≡ true = le-leb (length k) (length out) h in
+      record { code-is = rw e; out-is = rw e p; len-is = rw e; value-is = rw e q }
+
+pub found-reply : (n : Neighbour) (m : ℕ) → n .outcome ≡ Found → m ≡ n .len → found (entry (take m (n .key)) (n .value)) ≡ neighbourReply n
+found-reply n m e f =
+    ap (λ (i : ℕ). found (entry (take i (n .key)) (n .value))) f
+    ∙ sym (ap (λ (o : Outcome). outcomeReply o (entry (take (n .len) (n .key)) (n .value))) e)
+
+reply-from : (c : Operation) (e : Option (List Entry)) (a : Reply) → promise.Answers c e a → a ≡ replyIn c e
+reply-from c none a h = h
+reply-from c (some es) a h = h
+
+pub reply-in : (c : Operation) (s : List ℕ) (x : Index) (a : Reply) → x ≡ recordFrom s → promise.Answers c (entriesOf x) a → a ≡ replyIn c (entriesIn s)
+reply-in c s x a e h =
+    reply-from c (entriesIn s) a (subst (λ (z : Index). promise.Answers c (entriesOf z) a) e h)

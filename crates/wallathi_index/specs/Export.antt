@@ -11,6 +11,7 @@ use Rattle.octets.specs.Pick.{pick}
 use Rattle.octets.specs.Place.{put}
 use Rattle.radix.specs.Entries.{Entry}
 use Rattle.radix.specs.Record.{entriesOf}
+use Rattle.radix.specs.Answer.{ifSo}
 use Rattle.radix.specs.declared.Index.{Index}
 use Rattle.radix_bytes.specs.Bytes.{recordFrom}
 use Rattle.index.specs.Operation.{Operation, Reply, refused, done, removed, value, found, nothing, Replied, operate}
@@ -70,3 +71,44 @@ Answered c (some es) o code p = (code ≡ codeOf (operate c es .reply)) × (p �
 abbrev pub Settled : Bool → List ℕ → List ℕ → Index → Type 0
 Settled true s t y = recordFrom t ≡ y
 Settled false s t y = t ≡ s
+
+-- the neighbours: the entry whose key is written to an output with `room` bytes
+abbrev pub given : Reply → ℕ → Option Entry
+given (refused n) room = none
+given done room = none
+given (removed n) room = none
+given (value v) room = none
+given (found e) room = ifSo (leb (length (e .key)) room) e
+given nothing room = none
+
+abbrev pub nearCode : Reply → ℕ → ℕ
+nearCode (refused n) room = n
+nearCode done room = 0
+nearCode (removed n) room = 0
+nearCode (value v) room = 0
+nearCode (found e) room = pick (leb (length (e .key)) room) 0 8
+nearCode nothing room = 32
+
+abbrev pub keyTo : Option Entry → List ℕ → List ℕ
+keyTo none out = out
+keyTo (some e) out = put out 0 (e .key)
+
+abbrev pub lengthTo : Option Entry → ℕ → ℕ
+lengthTo none len = len
+lengthTo (some e) len = length (e .key)
+
+abbrev pub valueTo : Option Entry → ℕ → ℕ
+valueTo none v = v
+valueTo (some e) v = e .value
+
+-- entered with the output and the two out-parameters, left with those after
+pub record Tells (r : Reply) (out : List ℕ) (len value code : ℕ) (out′ : List ℕ) (len′ value′ : ℕ) : Type 0 where
+  pub code-is : code ≡ nearCode r (length out)
+  pub out-is : out′ ≡ keyTo (given r (length out)) out
+  pub len-is : len′ ≡ lengthTo (given r (length out)) len
+  pub value-is : value′ ≡ valueTo (given r (length out)) value
+
+-- the reply on what a record holds
+abbrev pub replyIn : Operation → Option (List Entry) → Reply
+replyIn c none = refused 2
+replyIn c (some es) = operate c es .reply

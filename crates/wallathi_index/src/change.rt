@@ -35,7 +35,7 @@ fn is_change(a: Answer) -> bool
     }
 }
 
-fn wide(x: u32) -> u64
+pub fn wide(x: u32) -> u64
     ensures { λ r. ⌜ r ≡ x ⌝ }
 {
     x as u64

@@ -2,17 +2,20 @@
 // said in specs/Export.
 
 mod change;
+mod near;
 
 use change::find_in;
 use change::put_in;
 use change::remove_in;
 use change::set_up_in;
+use near::first_in;
+use near::last_in;
 ghost use mathlib.Core.Path.{_≡_};
 ghost use mathlib.Core.List.{[]};
 ghost use mathlib.Core.Option.{some};
 ghost use Rattle.radix_bytes.specs.Bytes.{recordSize};
-ghost use Rattle.index.specs.Operation.{put, remove, find};
-ghost use Rattle.wallathi_index.specs.Export.{entriesIn, Follows, Answered};
+ghost use Rattle.index.specs.Operation.{put, remove, find, firstAtOrAbove, lastAtOrBelow};
+ghost use Rattle.wallathi_index.specs.Export.{entriesIn, replyIn, Follows, Answered, Tells};
 
 // How many bytes a record has.
 #[no_mangle]
@@ -48,4 +51,31 @@ pub extern "C" fn wallathi_index_find(bytes: &[u8; 6658], key: &[u8], value: &mu
     ensures { λ r. ⌜ Answered (find (now (key .entry))) (entriesIn (now (bytes .entry))) (now (value .entry)) r (now (value .exit)) ⌝ }
 {
     find_in(bytes, key, value)
+}
+
+// 16 bytes of output always suffice.
+#[no_mangle]
+pub extern "C" fn wallathi_index_first_at_or_above(
+    bytes: &[u8; 6658],
+    key: &[u8],
+    out: &mut [u8],
+    len: &mut u64,
+    value: &mut u64,
+) -> u32
+    ensures { λ r. ⌜ Tells (replyIn (firstAtOrAbove (now (key .entry))) (entriesIn (now (bytes .entry)))) (now (out .entry)) (now (len .entry)) (now (value .entry)) r (now (out .exit)) (now (len .exit)) (now (value .exit)) ⌝ }
+{
+    first_in(bytes, key, out, len, value)
+}
+
+#[no_mangle]
+pub extern "C" fn wallathi_index_last_at_or_below(
+    bytes: &[u8; 6658],
+    key: &[u8],
+    out: &mut [u8],
+    len: &mut u64,
+    value: &mut u64,
+) -> u32
+    ensures { λ r. ⌜ Tells (replyIn (lastAtOrBelow (now (key .entry))) (entriesIn (now (bytes .entry)))) (now (out .entry)) (now (len .entry)) (now (value .entry)) r (now (out .exit)) (now (len .exit)) (now (value .exit)) ⌝ }
+{
+    last_in(bytes, key, out, len, value)
 }
