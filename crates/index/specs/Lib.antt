@@ -2,3 +2,4 @@
 pub mod Operation
 pub mod Answer
 pub mod Promise
+pub mod Run

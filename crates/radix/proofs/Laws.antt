@@ -2,19 +2,21 @@
 use mathlib.Core.Bool.{Bool, true}
 use mathlib.Core.Path.{_≡_, refl, sym, ap, _∙_}
 use mathlib.Core.List.{List, [], _++_}
-use mathlib.Core.Option.{Option, some, none}
-use Prim.Native.Nat.{ℕ, _+_, _≤_}
+use mathlib.Core.Option.{Option, some, none, Option·some-injective}
+use Prim.Native.Nat.{ℕ, _+_, _*_, _≤_}
 use native.Mathlib.Omega.{arith}
 use borrow.Author.Tests.{leb-true}
 use lib.Dec.{leb}
 use lib.ListN.{length}
 use Rattle.octets.specs.Maybe.{need, _>>_}
 use Rattle.radix.specs.declared.Index.{Index}
-use Rattle.radix.specs.Entries.{Entry, isMap}
-use Rattle.radix.specs.Shape.{Shape, nil, node, shape}
+use Rattle.radix.specs.Entries.{Entry, isMap, rising, allFit}
+use Rattle.radix.specs.Shape.{Shape, nil, node, shape, nodes, nodeCount}
 use Rattle.radix.specs.Record.{treeOf, isPlaced, heldIn, entriesOf, entries-is}
 use Rattle.radix.specs.Table.{withOwn, gathered}
 use Rattle.radix.specs.Layout.{placeShape, recordOf, record-is}
+use Rattle.radix.proofs.Fits.{map-length, map-rising, map-fit}
+use Rattle.radix.proofs.Bounds.{shape-nodes, count-most}
 use Rattle.radix.proofs.Whole.{need-some, bind-some, shape-gathered, shape-held, held-map}
 use Rattle.radix.proofs.Built.{nodes-most}
 use Rattle.radix.proofs.Cells.{Labels}
@@ -52,3 +54,34 @@ holds x es e =
 
 pub entries-map : (x : Index) (es : List Entry) → entriesOf x ≡ some es → isMap es ≡ true
 entries-map x es e = holds x es e .map
+
+-- and a record in which the shape of a map is placed, each node at a place of its own and all others zero, holds the map
+pub placement : (x : Index) (es : List Entry) → Holds x es → entriesOf x ≡ some es
+placement x es h = entries-is x ∙ rw (h .placed, h .tree) (shape-held es (h .map))
+
+-- one record has one set of entries, and records of the same entries have the same tree
+pub one-set : (x : Index) (es fs : List Entry) → entriesOf x ≡ some es → entriesOf x ≡ some fs → es ≡ fs
+one-set x es fs e f = Option·some-injective es fs (sym e ∙ f)
+
+pub one-shape : (x y : Index) (es : List Entry) → entriesOf x ≡ some es → entriesOf y ≡ some es → treeOf x ≡ treeOf y
+one-shape x y es e f = holds x es e .tree ∙ sym (holds y es f .tree)
+
+-- the keys rise, there are at most 64, each has 1 to 16 bytes and a 32-bit value
+pub record Sorted (es : List Entry) : Type 0 where
+  pub rises : rising es ≡ true
+  pub few : length es ≤ 64
+  pub fit : allFit es ≡ true
+
+pub entries-sorted : (x : Index) (es : List Entry) → entriesOf x ≡ some es → Sorted es
+entries-sorted x es e =
+    let m = entries-map x es e in
+    record { rises = map-rising es m; few = map-length es m; fit = map-fit es m }
+
+-- with k keys, 1 at least, at most 4 k - 2 nodes, the root among them; so 254 of the pool's 256 always suffice
+pub nodes-bound : (x : Index) (es : List Entry) → entriesOf x ≡ some es → 1 ≤ length es → 1 + nodes (treeOf x) + 2 ≤ 4 * length es
+nodes-bound x es e l =
+    let h = holds x es e in
+    omega (arith, ap nodes (h .tree), shape-nodes es (h .map) l)
+
+pub nodes-suffice : (es : List Entry) → isMap es ≡ true → nodeCount es ≤ 254
+nodes-suffice = count-most

@@ -1,0 +1,51 @@
+-- The claim about a whole list of operations. Assumes nothing.
+use mathlib.Core.Bool.{Bool, true, false, true≢false}
+use mathlib.Core.Path.{_≡_, refl, sym, ap, ap₂, _∙_, subst}
+use mathlib.Core.List.{List, [], _∷_}
+use mathlib.Core.Option.{Option, some, none}
+use Prim.Native.Nat.{ℕ}
+use Rattle.octets.specs.Pick.{pick}
+use Rattle.radix.specs.declared.Index.{Index}
+use Rattle.radix.specs.Entries.{Entry, isKey}
+use Rattle.radix.specs.Record.{entriesOf}
+use Rattle.index.specs.Operation.{Operation, put, remove, find, firstAtOrAbove, lastAtOrBelow, Reply, refused, stays, keyed, operate, replies, operateAll}
+use Rattle.index.specs.Promise.{Answers, Shows, Changes}
+use Rattle.index.specs.Run.{onlyReads, Made, made-none, made-change, made-answer}
+
+stays-after : (k : List ℕ) (es : List Entry) (r : Reply) → keyed k es (stays es r) .after ≡ es
+stays-after k es r = go (isKey k)
+  where
+    go : (t : Bool) → pick t (stays es r) (stays es (refused 3)) .after ≡ es
+    go true = refl
+    go false = refl
+
+reads-after : (o : Operation) (es : List Entry) → onlyReads o ≡ true → operate o es .after ≡ es
+reads-after (put k v) es e = absurd (true≢false (sym e))
+reads-after (remove k) es e = absurd (true≢false (sym e))
+reads-after (find k) es e = stays-after k es _
+reads-after (firstAtOrAbove k) es e = stays-after k es _
+reads-after (lastAtOrBelow k) es e = stays-after k es _
+
+changed : (o : Operation) (x y : Index) (a : Reply) (es : List Entry) → entriesOf x ≡ some es → Changes o (entriesOf x) x a y → Shows (operate o es) x a y
+changed o x y a es e h = subst (λ (w : Option (List Entry)). Changes o w x a y) e h
+
+answers : (o : Operation) (x : Index) (a : Reply) (es : List Entry) → entriesOf x ≡ some es → Answers o (entriesOf x) a → a ≡ operate o es .reply
+answers o x a es e h = subst (λ (w : Option (List Entry)). Answers o w a) e h
+
+-- every list of operations: the replies are those of the sorted map, and the record holds what the list makes of what it held
+pub whole : {os : List Operation} {x z : Index} {rs : List Reply} → Made os x z rs → (es : List Entry) → entriesOf x ≡ some es
+    → (rs ≡ replies os es) × (entriesOf z ≡ some (operateAll os es))
+unfolding replies operateAll
+whole made-none es e = (refl, e)
+whole (made-change {o} {os} {x} {y} {z} {a} {rs} h m) es e =
+    let s = changed o x y a es e h in
+    let r = whole m (operate o es .after) (s .holds) in
+    (ap₂ (λ (b : Reply) (bs : List Reply). b ∷ bs) (s .reply) (r .0), r .1)
+whole (made-answer {o} {os} {x} {z} {a} {rs} p h m) es e =
+    let r = whole m (operate o es .after) (e ∙ ap some (sym (reads-after o es p))) in
+    (ap₂ (λ (b : Reply) (bs : List Reply). b ∷ bs) (answers o x a es e h) (r .0), r .1)
+
+-- from a record of no entries
+pub from-empty : {os : List Operation} {x z : Index} {rs : List Reply} → entriesOf x ≡ some [] → Made os x z rs
+    → (rs ≡ replies os []) × (entriesOf z ≡ some (operateAll os []))
+from-empty e m = whole m [] e
