@@ -24,7 +24,6 @@ use Rattle.groups.specs.Answer.{SoundRegion}
 use Rattle.groups.proofs.Tools.{both-of}
 use Rattle.groups.proofs.Names.{Named, named}
 use Rattle.groups.proofs.Fields.{length-field, length-fields}
-use Rattle.groups.proofs.Entries.{length-entries}
 use Rattle.groups.proofs.Rules.{Rules, rules}
 use Rattle.groups.proofs.Regions.{length-region, group-of-region}
 use Rattle.groups.proofs.Bodies.{body-parse, BodyRead, body-bytes}

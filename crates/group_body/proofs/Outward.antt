@@ -1,30 +1,27 @@
 -- The parts of a region that make the body: its name, its last delivered ID and number of consumers, their names, its entries.
 -- Assumes nothing.
 use mathlib.Core.Path.{_≡_, refl, sym, ap, ap₂, _∙_, subst}
-use mathlib.Core.Bool.{Bool, true, false}
+use mathlib.Core.Bool.{Bool, true}
 use mathlib.Core.List.{List, [], _∷_, _++_, append-assoc}
 use Prim.Native.Nat.{ℕ, zero, suc, _+_, _-_, _*_, _≤_, _<_}
-use native.Mathlib.Numerals.{one-add}
 use native.Mathlib.Omega.{arith}
-use lib.ListN.{length, take, drop, getD, length-append, length-drop}
-use lib.Seq.{take-at, drop-drop, length-take-le}
+use lib.ListN.{length, take, drop, getD, length-append}
+use lib.Seq.{take-at, drop-drop}
 use Rattle.octets.specs.Bytes.{le, zeros}
 use Rattle.octets.specs.Place.{area, put}
-use Rattle.octets.proofs.Laws.{both-true, length-le, area-first, area-none, area-add, area-front, area-left, length-area, put-append}
+use Rattle.octets.proofs.Laws.{both-true, length-le, area-first, area-none, area-add, area-left, length-area, put-append}
 use Rattle.id.specs.Bytes.{idBytes}
 use Rattle.id.proofs.Laws.{length-id-bytes}
-use Rattle.groups.specs.Group.{Group, isName, areNames, isGroup}
+use Rattle.groups.specs.Group.{Group, isName, areNames}
 use Rattle.groups.specs.Bytes.{nameBytes, nameField, allNames, allNameFields, allPending, padded, bodyBytes, regionBytes}
-use Rattle.groups.specs.Parse.{nameIn, namesIn, groupIn, consumersIn, entriesIn}
+use Rattle.groups.specs.Parse.{nameIn, namesIn, groupIn}
 use Rattle.groups.specs.Answer.{SoundRegion}
-use Rattle.groups.proofs.Tools.{area-drop}
 use Rattle.groups.proofs.Names.{Named, named}
 use Rattle.groups.proofs.Fields.{length-field, length-fields}
 use Rattle.groups.proofs.Entries.{length-entries}
 use Rattle.groups.proofs.Rules.{Rules, rules}
 use Rattle.groups.proofs.Parts.{length-padded, part-delivered, part-count, part-number, part-entries}
-use Rattle.groups.proofs.Turns.{first-byte, name-at}
-use Rattle.groups.proofs.Searched.{names-from}
+use Rattle.groups.proofs.Turns.{name-at}
 
 -- a body in four parts
 pub body-parts : (g : Group)

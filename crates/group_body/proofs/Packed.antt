@@ -1,28 +1,26 @@
 -- Names in a body, each after its length: the tests of the bytes are those of taking them. Assumes nothing.
-use mathlib.Core.Path.{_≡_, refl, sym, ap, ap₂, _∙_, subst}
+use mathlib.Core.Path.{_≡_, refl, sym, ap, ap₂, _∙_}
 use mathlib.Core.Bool.{Bool, true, false}
-use mathlib.Core.List.{List, [], _∷_, _++_, append-assoc}
+use mathlib.Core.List.{List, [], _∷_}
 use mathlib.Core.Option.{Option, some, none}
-use Prim.Native.Nat.{ℕ, zero, suc, _+_, _-_, _*_, _≤_, _<_}
+use Prim.Native.Nat.{ℕ, zero, suc, _+_, _≤_}
 use native.Mathlib.Numerals.{one-add}
 use native.Mathlib.Omega.{arith}
 use lib.Dec.{leb, eqb}
-use lib.ListN.{length, take, drop, getD, length-append, length-drop}
-use lib.Seq.{take-at, drop-at, drop-drop, length-take-le}
-use borrow.Author.Tests.{leb-true, le-leb, lt-leb, leb-false, eq-eqb, ne-eqb, eqb-true, eqb-false}
+use lib.ListN.{length, take, drop, getD, length-drop}
+use lib.Seq.{drop-drop, length-take-le}
+use borrow.Author.Tests.{leb-true, le-leb, lt-leb, leb-false, ne-eqb}
 use Rattle.octets.specs.Pick.{pick, both}
 use Rattle.octets.specs.Maybe.{_>>=_, _>>_, need}
 use Rattle.octets.specs.Bytes.{Bytes}
 use Rattle.octets.specs.Place.{Taken, area, takeBytes}
 use Rattle.octets.proofs.Laws.{both-true}
-use Rattle.groups.specs.Group.{isName, nameBefore, areNames, namesAbove}
-use Rattle.groups.specs.Bytes.{nameBytes, allNames}
+use Rattle.groups.specs.Group.{nameBefore}
 use Rattle.groups.specs.Parse.{nameIn, takeName, TakenNames, takeNames}
-use Rattle.groups.proofs.Tools.{both-of}
-use Rattle.groups.proofs.Names.{Named, named}
+use Rattle.groups.proofs.Names.{Named}
 use Rattle.groups.proofs.Turns.{first-byte}
 use Rattle.groups.proofs.Bodies.{taken, takenNames}
-use Rattle.group_body.specs.Answer.{isNameAt, namesAt, areNamesAt, nameEnd, namesEnd}
+use Rattle.group_body.specs.Answer.{isNameAt, namesAt, nameEnd, namesEnd}
 
 need-both : {A : Type 0} (a b : Bool) (x : Option A) → (need a >> (need b >> x)) ≡ (need (both a b) >> x)
 need-both true b x = refl

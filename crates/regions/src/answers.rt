@@ -6,7 +6,6 @@ use groups::Place;
 use groups_change::Claimed;
 use groups_change::Delivery;
 use id::Id;
-ghost use mathlib.Core.Path.{_≡_};
 ghost use Prim.Native.Nat.{_≤_};
 ghost use lib.ListN.{length};
 ghost use Rattle.groups.specs.Answer.{SoundRegion};

@@ -1,7 +1,6 @@
 -- `regions::main` ends: the number of operations that may still come falls. Assumes nothing.
 use mathlib.Core.Path.{_≡_}
 use borrow.Author.Needs.{needs}
-use native.Mathlib.Omega.{arith}
 use lib.ListN.{length}
 use Rattle.regions.proofs.main.Statement.{statement}
 use Rattle.regions.proofs.main.Tie as tie

@@ -1,9 +1,9 @@
 -- `name_end` meets its contract, by the law of each answer. Assumes nothing.
 use mathlib.Core.Path.{_≡_, refl, sym, ap, ap₂, _∙_}
-use Prim.Native.Nat.{_+_, _-_, _≤_}
+use Prim.Native.Nat.{_+_}
 use borrow.Author.Needs.{needs}
 use native.Mathlib.Omega.{arith}
-use lib.ListN.{length, drop, getD, List·getD-eq-default}
+use lib.ListN.{drop, getD, List·getD-eq-default}
 use Rattle.octets.specs.Place.{area}
 use Rattle.octets.specs.Compare.{orderOf, isLess}
 use Rattle.groups.specs.Parse.{nameIn}

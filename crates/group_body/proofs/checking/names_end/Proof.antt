@@ -1,12 +1,12 @@
 -- `names_end` meets its contract: the end of the names that are left is that of all. Assumes nothing.
-use mathlib.Core.Path.{_≡_, refl, sym, ap, _∙_}
+use mathlib.Core.Path.{_≡_, sym, ap, _∙_}
 use mathlib.Core.List.{List, []}
-use Prim.Native.Nat.{ℕ, _+_, _-_, _≤_}
+use Prim.Native.Nat.{ℕ, _+_, _≤_}
 use native.Mathlib.Omega.{arith}
 use lib.ListN.{length, getD}
 use Rattle.octets.specs.Place.{area}
 use Rattle.octets.proofs.Laws.{area-none}
-use Rattle.group_body.specs.Answer.{nameEnd, namesEnd}
+use Rattle.group_body.specs.Answer.{namesEnd}
 use Rattle.group_body.proofs.Tested.{Ends, ends, names-bad, names-next, names-done}
 use Rattle.group_body.proofs.checking.names_end.Statement.{statement}
 use Rattle.group_body.proofs.checking.names_end.Tie as tie

@@ -1,8 +1,6 @@
 -- `body_size` meets its contract: the sizes of the parts add up. Assumes nothing.
-use mathlib.Core.Path.{_≡_}
 use borrow.Author.Needs.{needs}
 use native.Mathlib.Omega.{arith}
-use lib.ListN.{length}
 use Rattle.groups.specs.Parse.{groupIn}
 use Rattle.group_body.proofs.Outward.{BodyIn, body-of, length-body}
 use Rattle.group_body.proofs.writing.body_size.Statement.{statement}

@@ -1,10 +1,10 @@
 -- `write_body` meets its contract by the law of its steps. Assumes nothing.
-use mathlib.Core.Path.{_≡_, refl, sym, ap, ap₂, _∙_}
+use mathlib.Core.Path.{_≡_, ap, ap₂, _∙_}
 use mathlib.Core.List.{List}
 use Prim.Native.Nat.{ℕ, _+_, _-_, _*_, _≤_}
 use borrow.Author.Needs.{needs}
 use native.Mathlib.Omega.{arith}
-use lib.ListN.{length, take, drop, getD}
+use lib.ListN.{length, take, drop}
 use Rattle.octets.specs.Place.{area, put}
 use Rattle.octets.proofs.Laws.{part-area, length-area}
 use Rattle.groups.specs.Bytes.{allNames, bodyBytes}
