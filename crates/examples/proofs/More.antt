@@ -7,7 +7,7 @@ use Prim.Native.Nat.{ℕ, zero, suc, _+_, _-_, _^_}
 use lib.ListN.{length, replicate}
 use Rattle.octets.specs.Bytes.{zeros}
 use Rattle.id.specs.Id.{idOf, least, greatest}
-use Rattle.index.specs.Entries as Index
+use Rattle.radix.specs.Entries as Index
 use Rattle.index.specs.Operation as Indexed
 use Rattle.node.specs.Message.{Entry, live, Pair, pair}
 use Rattle.groups.specs.Group.{Group, Pending}

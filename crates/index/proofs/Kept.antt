@@ -11,12 +11,12 @@ use borrow.Author.Tests.{leb-false, lt-ltb}
 use Rattle.octets.specs.Pick.{pick, both}
 use Rattle.octets.specs.Maybe.{isNone}
 use Rattle.octets.specs.Compare.{same}
-use Rattle.index.specs.Entries.{Entry, entry, mostKeys, isKey, comesBefore, allFit, isMap, lookup, has, insert, without}
+use Rattle.radix.specs.Entries.{Entry, entry, mostKeys, isKey, comesBefore, allFit, isMap, lookup, has, insert, without}
 use Rattle.index.specs.Operation.{Operation, put, remove, find, firstAtOrAbove, lastAtOrBelow, Replied, putTo, removeFrom, operate, operateAll}
-use Rattle.index.proofs.Sorted.{both-left, both-right}
-use Rattle.index.proofs.Fits.{is-map, map-length, map-rising, map-fit}
-use Rattle.index.proofs.Maps.{heldIn, rising-insert, rising-without}
-use Rattle.index.proofs.Positions.{length-new, length-held, length-without, without-new}
+use Rattle.radix.proofs.Sorted.{both-left, both-right}
+use Rattle.radix.proofs.Fits.{is-map, map-length, map-rising, map-fit}
+use Rattle.radix.proofs.Maps.{heldIn, rising-insert, rising-without}
+use Rattle.radix.proofs.Positions.{length-new, length-held, length-without, without-new}
 
 -- the test of one entry
 abbrev fits : List ℕ → ℕ → Bool

@@ -14,27 +14,27 @@ use Rattle.octets.specs.Pick.{pick, both}
 use Rattle.octets.specs.Maybe.{isNone}
 use Rattle.octets.specs.Place.{area}
 use Rattle.octets.specs.Compare.{same}
-use Rattle.index.specs.declared.Index.{Index}
-use Rattle.index.specs.Entries.{Entry, entry, isKey, isMap, rising, mostKeys, lookup, has, insert, without}
+use Rattle.radix.specs.declared.Index.{Index}
+use Rattle.radix.specs.Entries.{Entry, entry, isKey, isMap, rising, allFit, mostKeys, lookup, has, insert, without}
 use Rattle.index.specs.Operation.{Operation, put, remove, find, valueReply, Reply, refused, done, removed, Replied, stays, putTo, removeFrom, operate}
-use Rattle.index.specs.Shape.{Shape}
-use Rattle.index.specs.Walk.{findIn}
-use Rattle.index.specs.Rank.{rank}
-use Rattle.index.specs.Record.{lengthOf, nodesOf, treeAt, treeOf, entriesOf}
-use Rattle.index.specs.Table.{Columns, rowAt, rowsFrom, gathered}
-use Rattle.index.specs.Layout.{recordOf}
+use Rattle.radix.specs.Shape.{Shape}
+use Rattle.radix.specs.Walk.{findIn}
+use Rattle.radix.specs.Rank.{rank}
+use Rattle.radix.specs.Record.{lengthOf, nodesOf, treeAt, treeOf, entriesOf}
+use Rattle.radix.specs.Table.{Columns, rowAt, rowsFrom, gathered}
+use Rattle.radix.specs.Layout.{recordOf}
 use Rattle.index.specs.Promise.{Answers, Shows, Changes, IsSound}
-use Rattle.index.specs.Answer.{ifSo, tabled, listedOf}
-use Rattle.index.specs.declared.Listed.{Listed}
-use Rattle.index.proofs.Listing.{none-listed, root-within}
-use Rattle.index.proofs.Whole.{shape-gathered}
-use Rattle.index.proofs.Lookups.{shape-find}
-use Rattle.index.proofs.Fits.{map-rising, map-length}
-use Rattle.index.proofs.Maps.{has-none, has-some}
-use Rattle.index.proofs.Positions.{insert-new, insert-held, without-held, has-row, has-end, rank-most}
+use Rattle.radix.specs.Answer.{ifSo, tabled, listedOf}
+use Rattle.radix.specs.declared.Listed.{Listed}
+use Rattle.radix.proofs.Listing.{none-listed, root-within}
+use Rattle.radix.proofs.Whole.{shape-gathered}
+use Rattle.radix.proofs.Lookups.{shape-find}
+use Rattle.radix.proofs.Fits.{map-rising, map-length}
+use Rattle.radix.proofs.Maps.{has-none, has-some}
+use Rattle.radix.proofs.Positions.{insert-new, insert-held, without-held, has-row, has-end, rank-most}
 use Rattle.index.proofs.Kept.{map-insert, map-without}
-use Rattle.index.proofs.Rows.{length-rows, rows-get}
-use Rattle.index.proofs.Laws.{record-back, holds}
+use Rattle.radix.proofs.Rows.{length-rows, rows-get}
+use Rattle.radix.proofs.Laws.{record-back, holds}
 
 -- the row at a key's place has the key, or it is not held
 pub is-held : (t : Columns) (n : ℕ) (k : List ℕ) (i : ℕ) → rising (rowsFrom t 0 n) ≡ true → i ≡ rank k (rowsFrom t 0 n)
@@ -172,3 +172,14 @@ answers-2 o x l e f = subst (λ (w : Option (List Entry)). Answers o w (refused 
 
 pub listed-sound : (x : Index) (l : Listed) → listedOf l ≡ entriesOf x → l .ok ≡ true → IsSound (entriesOf x)
 listed-sound x l e f = subst⁻¹ IsSound (some-listed x l e f) tt
+
+-- no entries
+no-entries : isMap [] ≡ true
+unfolding isMap rising allFit
+no-entries = refl
+
+pub none-map : (es : List Entry) → es ≡ [] → isMap es ≡ true
+none-map es e = ap isMap e ∙ no-entries
+
+pub empty-holds : (x : Index) (es : List Entry) → es ≡ [] → x ≡ recordOf es → entriesOf x ≡ some []
+empty-holds x es e f = ap entriesOf (f ∙ ap recordOf e) ∙ record-back [] no-entries

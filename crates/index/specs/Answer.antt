@@ -1,32 +1,15 @@
--- What the answers of the code say, in the terms of specs/. Assumes nothing.
-use mathlib.Core.Bool.{Bool, true, false}
-use mathlib.Core.Option.{Option, some, none}
-use mathlib.Core.Path.{_≡_}
-use Prim.Native.Nat.{ℕ, _≤_}
-use lib.ListN.{length}
-use mathlib.Core.List.{List}
-use Rattle.index.specs.Entries.{Entry}
-use Rattle.index.specs.Operation.{Reply, refused, done, removed, value, nothing}
-use Rattle.index.specs.Table.{Columns, columns, rowsFrom}
-use Rattle.index.specs.declared.Found.{Found}
-use Rattle.index.specs.declared.Found.the-variants.{Value, Nothing}
-use Rattle.index.specs.declared.Table.{Table}
-use Rattle.index.specs.declared.Listed.{Listed}
+-- What the answers of the code say, in the terms of Operation. Assumes nothing.
+use lib.ListN.{take}
+use Rattle.octets.specs.Pick.{pick}
+use Rattle.radix.specs.Entries.{Entry, entry}
+use Rattle.radix_walk.specs.declared.near.Near.{Near}
+use Rattle.index.specs.Operation.{Reply, refused, done, removed, value, found, nothing}
 use Rattle.index.specs.declared.Answer.{Answer}
 use Rattle.index.specs.declared.Answer.the-variants.{Done, Removed, Held, Absent, Refused}
-use Rattle.index.specs.declared.Gathered.{Gathered}
-use Rattle.index.specs.declared.Gathered.the-variants.{Rows, TooMany}
+use Rattle.index.specs.declared.Outcome.{Outcome}
+use Rattle.index.specs.declared.Outcome.the-variants as outcome
+use Rattle.index.specs.declared.Neighbour.{Neighbour}
 
-abbrev pub foundOf : Found → Option ℕ
-foundOf Nothing = none
-foundOf (Value v) = some v
-
--- a test that leaves something behind
-abbrev pub ifSo : {A : Type 0} → Bool → A → Option A
-ifSo true a = some a
-ifSo false a = none
-
--- an answer in the terms of specs/
 abbrev pub replyOf : Answer → Reply
 replyOf Done = done
 replyOf (Removed n) = removed n
@@ -34,25 +17,15 @@ replyOf (Held v) = value v
 replyOf Absent = nothing
 replyOf (Refused n) = refused n
 
--- rows gathered into columns
-abbrev pub rowsOf : Gathered → Columns → Option (List Entry)
-rowsOf TooMany t = none
-rowsOf (Rows n) t = some (rowsFrom t 0 n)
+-- an outcome, where the entry e was found
+abbrev pub outcomeReply : Outcome → Entry → Reply
+outcomeReply outcome.Found e = found e
+outcomeReply outcome.Nothing e = nothing
+outcomeReply (outcome.Refused n) e = refused n
 
--- columns with room for 64 rows, of which n are in use
-pub record Room (n : ℕ) (len val key : List ℕ) : Type 0 where
-  pub rows : n ≤ 64
-  pub len-long : length len ≡ 64
-  pub val-long : length val ≡ 64
-  pub key-long : length key ≡ 1024
+abbrev pub neighbourReply : Neighbour → Reply
+neighbourReply n = outcomeReply (n .outcome) (entry (take (n .len) (n .key)) (n .value))
 
-abbrev pub Within : Gathered → Type 0
-Within TooMany = Unit
-Within (Rows n) = n ≤ 64
-
-abbrev pub tabled : Table → List Entry
-tabled t = rowsFrom (columns (t .len) (t .val) (t .key)) 0 (t .n)
-
--- what a record was found to hold
-abbrev pub listedOf : Listed → Option (List Entry)
-listedOf r = ifSo (r .ok) (tabled (r .table))
+-- what a walk found
+abbrev pub nearReply : Near → Reply
+nearReply n = pick (n .found) (found (entry (take (n .len) (n .key)) (n .value))) nothing

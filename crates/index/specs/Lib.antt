@@ -1,14 +1,4 @@
--- Read in this order.
-pub mod Entries
+-- Read in this order, after the definitions of the crate radix: Entries, Shape, Record.
 pub mod Operation
-pub mod Shape
-pub mod Canon
-pub mod Record
-pub mod Table
-pub mod Layout
-pub mod Rows
 pub mod Answer
-pub mod Walk
-pub mod Rank
-pub mod Neighbours
 pub mod Promise

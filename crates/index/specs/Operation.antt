@@ -7,7 +7,7 @@ use lib.Dec.{leb}
 use lib.ListN.{length}
 use Rattle.octets.specs.Pick.{pick, both}
 use Rattle.octets.specs.Maybe.{isNone}
-use Rattle.index.specs.Entries.{Entry, isKey, mostKeys, lookup, has, insert, without, firstFrom, lastUpTo}
+use Rattle.radix.specs.Entries.{Entry, isKey, mostKeys, lookup, has, insert, without, firstFrom, lastUpTo}
 
 pub data Operation : Type 0 where
   put : List ℕ → ℕ → Operation

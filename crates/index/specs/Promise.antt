@@ -4,10 +4,10 @@ use mathlib.Core.Path.{_≡_}
 use mathlib.Core.List.{List}
 use mathlib.Core.Option.{Option, some, none}
 use Prim.Native.Nat.{ℕ}
-use Rattle.index.specs.declared.Index.{Index}
-use Rattle.index.specs.Entries.{Entry}
+use Rattle.radix.specs.declared.Index.{Index}
+use Rattle.radix.specs.Entries.{Entry}
 use Rattle.index.specs.Operation.{Operation, Reply, refused, done, removed, value, found, nothing, Replied, operate}
-use Rattle.index.specs.Record.{entriesOf}
+use Rattle.radix.specs.Record.{entriesOf}
 
 -- an operation that only reads
 abbrev pub Answers : Operation → Option (List Entry) → Reply → Type 0

@@ -1,53 +1,21 @@
 // A radix index of up to 64 keys of 1 to 16 bytes. What it answers is said in specs/.
 
-mod build;
-mod gather;
-mod judge;
-mod list;
-mod near;
+mod adjoining;
 mod operation;
-mod pool;
 mod row;
-mod seek;
 
-pub use near::Near;
-
-// The record, drawn in specs/Record.antt.
-pub struct Index {
-    pub root: u16,
-    pub len: [u8; 256],
-    pub key: [u8; 256],
-    pub child: [u16; 256],
-    pub next: [u16; 256],
-    pub val: [u32; 256],
-    pub label: [u8; 4096],
-}
-
-// The value of a key, if it is held.
-pub enum Found {
-    Value(u32),
-    Nothing,
-}
-
-// How many rows a table has after rows were gathered; or they did not fit it.
-pub enum Gathered {
-    Rows(usize),
-    TooMany,
-}
-
-// Entries in order: n rows, the key of row i at 16 i.
-pub struct Table {
-    pub n: usize,
-    pub len: [u8; 64],
-    pub val: [u32; 64],
-    pub key: [u8; 1024],
-}
-
-// The entries of a record, where ok says that it holds any.
-pub struct Listed {
-    pub ok: bool,
-    pub table: Table,
-}
+pub use adjoining::first_at_or_above;
+pub use adjoining::first_at_or_above_sound;
+pub use adjoining::last_at_or_below;
+pub use adjoining::last_at_or_below_sound;
+pub use operation::empty;
+pub use operation::find;
+pub use operation::find_sound;
+pub use operation::put;
+pub use operation::put_sound;
+pub use operation::remove;
+pub use operation::remove_sound;
+use radix::Index;
 
 // What an operation answers.
 pub enum Answer {
@@ -62,4 +30,19 @@ pub enum Answer {
 pub struct Changed {
     pub answer: Answer,
     pub index: Index,
+}
+
+// Whether a key has a neighbour.
+pub enum Outcome {
+    Found,
+    Nothing,
+    Refused(u32),
+}
+
+// The neighbour of a key, where one was found: the first len bytes of key, and its value.
+pub struct Neighbour {
+    pub outcome: Outcome,
+    pub len: usize,
+    pub value: u32,
+    pub key: [u8; 16],
 }

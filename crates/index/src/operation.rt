@@ -1,32 +1,36 @@
 // The operations on a record. Refusals in rising order of their numbers: 2, then 3, then 18.
 
 ghost use mathlib.Core.Path.{_≡_};
+ghost use mathlib.Core.List.{[]};
 ghost use mathlib.Core.Option.{some};
 ghost use Prim.Native.Nat.{_+_, _≤_};
 ghost use lib.ListN.{length};
-ghost use Rattle.index.specs.Entries.{isKey};
+ghost use Rattle.radix.specs.Entries.{isKey};
 ghost use Rattle.index.specs.Operation.{put, remove, find, operate};
-ghost use Rattle.index.specs.Record.{entriesOf};
-ghost use Rattle.index.specs.Answer.{tabled, replyOf};
+ghost use Rattle.radix.specs.Record.{entriesOf};
+ghost use Rattle.radix.specs.Answer.{tabled};
+ghost use Rattle.index.specs.Answer.{replyOf};
 ghost use Rattle.index.specs.Promise.{Answers, Shows, Changes, IsSound};
 use crate::Answer;
 use crate::Changed;
-use crate::Found;
-use crate::Index;
-use crate::Table;
-use crate::build::build;
-use crate::list::list;
-use crate::list::table_of;
-use crate::pool::link_at;
-use crate::pool::wide_link;
 use crate::row::is_row;
+use crate::row::no_rows;
 use crate::row::rank_of;
 use crate::row::with_row;
 use crate::row::without_row;
-use crate::seek::find_from;
+use radix::Found;
+use radix::Index;
+use radix::Table;
+
+// The record of no entries.
+pub fn empty() -> Index
+    ensures { λ r. ⌜ entriesOf r ≡ some [] ⌝ }
+{
+    radix::build(no_rows())
+}
 
 // A key has 1 to 16 bytes.
-fn is_key(k: &[u8]) -> bool
+pub fn is_key(k: &[u8]) -> bool
     ensures { λ r. ⌜ r ≡ isKey (now (k .entry)) ⌝ }
 {
     if k.len() < 1 {
@@ -49,7 +53,7 @@ fn put_in(x: Index, t: Table, k: &[u8], v: u32) -> Changed
     let n = t.n;
     let i = rank_of(t, k);
     if is_row(t, i, k) {
-        let y = build(with_row(t, i, i + 1, k, v));
+        let y = radix::build(with_row(t, i, i + 1, k, v));
         return Changed {
             answer: Answer::Done,
             index: y,
@@ -61,7 +65,7 @@ fn put_in(x: Index, t: Table, k: &[u8], v: u32) -> Changed
             index: x,
         };
     }
-    let y = build(with_row(t, i, i, k, v));
+    let y = radix::build(with_row(t, i, i, k, v));
     Changed {
         answer: Answer::Done,
         index: y,
@@ -81,7 +85,7 @@ fn remove_in(x: Index, t: Table, k: &[u8]) -> Changed
     }
     let i = rank_of(t, k);
     if is_row(t, i, k) {
-        let y = build(without_row(t, i));
+        let y = radix::build(without_row(t, i));
         return Changed {
             answer: Answer::Removed(1),
             index: y,
@@ -97,7 +101,7 @@ fn remove_in(x: Index, t: Table, k: &[u8]) -> Changed
 pub fn put(x: Index, k: &[u8], v: u32) -> Changed
     ensures { λ r. ⌜ Changes (put (now (k .entry)) v) (entriesOf x) x (replyOf (r .answer)) (r .index) ⌝ }
 {
-    let l = list(x);
+    let l = radix::list(x);
     if !l.ok {
         return Changed {
             answer: Answer::Refused(2),
@@ -112,7 +116,7 @@ pub fn put(x: Index, k: &[u8], v: u32) -> Changed
 pub fn remove(x: Index, k: &[u8]) -> Changed
     ensures { λ r. ⌜ Changes (remove (now (k .entry))) (entriesOf x) x (replyOf (r .answer)) (r .index) ⌝ }
 {
-    let l = list(x);
+    let l = radix::list(x);
     if !l.ok {
         return Changed {
             answer: Answer::Refused(2),
@@ -128,7 +132,7 @@ pub fn put_sound(x: Index, k: &[u8], v: u32) -> Changed
     requires { ⌜ IsSound (entriesOf x) ⌝ }
     ensures { λ r. ⌜ Changes (put (now (k .entry)) v) (entriesOf x) x (replyOf (r .answer)) (r .index) ⌝ }
 {
-    let l = table_of(x);
+    let l = radix::table_of(x);
     let t = l.table;
     put_in(x, t, k, v)
 }
@@ -137,7 +141,7 @@ pub fn remove_sound(x: Index, k: &[u8]) -> Changed
     requires { ⌜ IsSound (entriesOf x) ⌝ }
     ensures { λ r. ⌜ Changes (remove (now (k .entry))) (entriesOf x) x (replyOf (r .answer)) (r .index) ⌝ }
 {
-    let l = table_of(x);
+    let l = radix::table_of(x);
     let t = l.table;
     remove_in(x, t, k)
 }
@@ -149,9 +153,9 @@ pub fn find_sound(x: Index, k: &[u8]) -> Answer
     if !is_key(k) {
         return Answer::Refused(3);
     }
-    let root = wide_link(x.root);
-    let first = link_at(&x.child, root);
-    let f = find_from(
+    let root = radix::wide_link(x.root);
+    let first = radix::link_at(&x.child, root);
+    let f = radix_walk::find_from(
         &x.len,
         &x.key,
         &x.child,
@@ -171,7 +175,7 @@ pub fn find_sound(x: Index, k: &[u8]) -> Answer
 pub fn find(x: Index, k: &[u8]) -> Answer
     ensures { λ r. ⌜ Answers (find (now (k .entry))) (entriesOf x) (replyOf r) ⌝ }
 {
-    let l = list(x);
+    let l = radix::list(x);
     if !l.ok {
         return Answer::Refused(2);
     }

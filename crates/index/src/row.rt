@@ -8,16 +8,15 @@ ghost use lib.ListN.{length, take, drop};
 ghost use Rattle.octets.specs.Pick.{both};
 ghost use Rattle.octets.specs.Place.{area};
 ghost use Rattle.octets.specs.Compare.{same};
-ghost use Rattle.index.specs.Entries.{entry, comesBefore};
-ghost use Rattle.index.specs.Record.{lengthOf};
-ghost use Rattle.index.specs.Table.{columns, rowsFrom};
-ghost use Rattle.index.specs.Rank.{rank};
-ghost use Rattle.index.specs.Answer.{tabled};
-use crate::Table;
-use crate::build::row_len;
+ghost use Rattle.radix.specs.Entries.{entry, comesBefore};
+ghost use Rattle.radix.specs.Record.{lengthOf};
+ghost use Rattle.radix.specs.Table.{columns, rowsFrom};
+ghost use Rattle.radix.specs.Rank.{rank};
+ghost use Rattle.radix.specs.Answer.{tabled};
 use octets::Order;
+use radix::Table;
 
-fn no_rows() -> Table
+pub fn no_rows() -> Table
     ensures { λ r. ⌜ (tabled r ≡ []) × (r .n ≡ 0) ⌝ }
 {
     Table {
@@ -60,7 +59,7 @@ fn copy_rows(from: Table, a: usize, b: usize, to: Table) -> Table
     let mut i = a;
     while i < b {
         let at = 16 * i;
-        let m = row_len(&len, i);
+        let m = radix::row_len(&len, i);
         t = append(t, &key[at..at + m], val[i]);
         i += 1;
     }
@@ -89,7 +88,7 @@ pub fn rank_of(t: Table, k: &[u8]) -> usize
     let mut i = 0;
     while i < n {
         let at = 16 * i;
-        let m = row_len(&len, i);
+        let m = radix::row_len(&len, i);
         if !comes_before(&key[at..at + m], k) {
             return i;
         }
@@ -109,7 +108,7 @@ pub fn is_row(t: Table, i: usize, k: &[u8]) -> bool
     let len = t.len;
     let key = t.key;
     let at = 16 * i;
-    let m = row_len(&len, i);
+    let m = radix::row_len(&len, i);
     octets::equal(k, &key[at..at + m])
 }
 

@@ -7,10 +7,10 @@ use Prim.Native.Nat.{ℕ, _<_, _≤_}
 use native.Mathlib.Omega.{arith}
 use borrow.Author.Needs.{needs}
 use borrow.Author.Tests.{not-true, not-false}
-use Rattle.index.specs.declared.Found.{Found}
-use Rattle.index.specs.Entries.{isKey}
+use Rattle.radix.specs.declared.Found.{Found}
+use Rattle.radix.specs.Entries.{isKey}
 use Rattle.index.specs.Operation.{find, valueReply}
-use Rattle.index.specs.Answer.{foundOf}
+use Rattle.radix.specs.Answer.{foundOf}
 use Rattle.index.proofs.Steps.{sound-root, find-3, find-is}
 use Rattle.index.proofs.operation.find_sound.Statement.{statement}
 use Rattle.index.proofs.operation.find_sound.Tie as tie

@@ -1,0 +1,22 @@
+-- `first_at_or_above` meets its contract. Assumes nothing.
+use mathlib.Core.Path.{_≡_, subst⁻¹}
+use borrow.Author.Needs.{needs}
+use borrow.Author.Tests.{not-true, not-false}
+use Rattle.radix.specs.Record.{entriesOf}
+use Rattle.index.specs.Operation.{Reply, firstAtOrAbove}
+use Rattle.index.specs.Promise.{Answers}
+use Rattle.index.proofs.Steps.{answers-2, listed-sound}
+use Rattle.index.proofs.adjoining.first_at_or_above.Statement.{statement}
+use Rattle.index.proofs.adjoining.first_at_or_above.Tie as tie
+
+pub first-at-or-above-spec : {M : Type 1} → statement M
+first-at-or-above-spec =
+    tie.close
+    (tie.spec
+    (λ c κs. search needs)
+    (λ c κs. search needs)
+    (λ c.
+    let x = c.before.before.before.before.before .args in
+    (subst⁻¹ (λ (a : Reply). Answers (firstAtOrAbove (x .k .now)) (entriesOf (x .x)) a) (c .refusal .ensures .0) (answers-2 (firstAtOrAbove (x .k .now)) (x .x) (c.before.before.before .list .result) (c.before.before.before .list .ensures) (not-true _ (c.before .if1 .taken))), c .refusal .ensures .1))
+    (λ c κs. listed-sound (c.before.before.before.before .args .x) (c.before.before .list .result) (c.before.before .list .ensures) (not-false _ (c .if1 .left)))
+    (λ c. search needs))

@@ -1,0 +1,35 @@
+-- `first_at_or_above_sound` meets its contract. Assumes nothing.
+use mathlib.Core.Bool.{true}
+use mathlib.Core.Path.{_≡_, sym, _∙_}
+use mathlib.Core.List.{[]}
+use native.Mathlib.Omega.{arith}
+use borrow.Author.Needs.{needs}
+use borrow.Author.Tests.{not-true, not-false}
+use Rattle.radix.specs.Entries.{isKey}
+use Rattle.radix.specs.Record.{nodesOf, treeAt}
+use Rattle.radix.specs.Walk.{firstIn}
+use Rattle.index.specs.Answer.{neighbourReply}
+use Rattle.index.proofs.Steps.{sound-root}
+use Rattle.index.proofs.Adjacent.{near-short, first-3, first-is}
+use Rattle.index.proofs.adjoining.first_at_or_above_sound.Statement.{statement}
+use Rattle.index.proofs.adjoining.first_at_or_above_sound.Tie as tie
+
+key : (c : tie.Else1) → isKey (c.before.before.before .args .k .now) ≡ true
+key c = sym (c.before .is-key .ensures) ∙ not-false _ (c .if1 .left)
+
+pub first-at-or-above-sound-spec : {M : Type 1} → statement M
+first-at-or-above-sound-spec =
+    tie.close
+    (tie.spec
+    (λ c κs. search needs)
+    (λ c κs. search needs)
+    (λ c.
+    let x = c.before.before.before.before .args in
+    (first-3 (x .t1) (x .k .now) (c.before.before.before.before .pre) (neighbourReply (c .refusal .result)) (sym (c.before.before .is-key .ensures) ∙ not-true _ (c.before .if1 .taken)) (c .refusal .ensures .0), c .refusal .ensures .1))
+    (λ c κs. search needs)
+    (λ c κs. omega (arith, sound-root (c.before.before.before.before.before.before .args .t1) (c.before.before.before.before.before.before .pre), c.before.before .wide-link .ensures .0))
+    (λ c κs. search needs)
+    (λ c κs. near-short (firstIn [] (treeAt 256 (nodesOf (c.before.before.before.before.before.before.before.before.before.before.before.before.before.before.before .args .t1)) (c.before.before.before.before.before.before.before.before .link-at .result)) (c.before.before.before.before.before.before.before.before.before.before.before.before.before.before.before .args .k .now)) (c .first-from .result) (c .first-from .ensures))
+    (λ c.
+    let x = c.before.before.before.before.before.before.before.before.before.before.before.before.before.before.before.before .args in
+    (first-is (x .t1) (x .k .now) (c.before.before.before.before.before.before.before.before.before.before.before.before.before.before.before.before .pre) (key c.before.before.before.before.before.before.before.before.before.before.before.before.before) (c.before.before.before.before.before.before.before.before.before.before.before.before .wide-link .result) (c.before.before.before.before.before.before.before.before.before .link-at .result) (c.before.before.before.before.before.before.before.before.before.before.before.before .wide-link .ensures .0) (c.before.before.before.before.before.before.before.before.before .link-at .ensures .0) (c.before .first-from .result) (neighbourReply (c .neighbour-of .result)) (c .neighbour-of .ensures .0) (c.before .first-from .ensures), c .neighbour-of .ensures .1)))

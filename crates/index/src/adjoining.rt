@@ -1,0 +1,111 @@
+// The first key at or above a key, and the last at or below it. Refusals in rising order of their numbers: 2, then 3.
+
+ghost use mathlib.Core.Path.{_≡_};
+ghost use Prim.Native.Nat.{_≤_};
+ghost use Rattle.radix.specs.Record.{entriesOf};
+ghost use Rattle.index.specs.Operation.{refused, firstAtOrAbove, lastAtOrBelow};
+ghost use Rattle.index.specs.Answer.{nearReply, neighbourReply};
+ghost use Rattle.index.specs.Promise.{Answers, IsSound};
+use crate::Neighbour;
+use crate::Outcome;
+use crate::operation::is_key;
+use radix::Index;
+use radix_walk::Near;
+
+fn refusal(n: u32) -> Neighbour
+    ensures { λ r. ⌜ (neighbourReply r ≡ refused n) × (r .len ≤ 16) ⌝ }
+{
+    Neighbour {
+        outcome: Outcome::Refused(n),
+        len: 0,
+        value: 0,
+        key: [0; 16],
+    }
+}
+
+// What a walk found.
+fn neighbour_of(n: Near) -> Neighbour
+    requires { ⌜ n .len ≤ 16 ⌝ }
+    ensures { λ r. ⌜ (neighbourReply r ≡ nearReply n) × (r .len ≤ 16) ⌝ }
+{
+    let len = n.len;
+    let value = n.value;
+    let key = n.key;
+    if n.found {
+        return Neighbour {
+            outcome: Outcome::Found,
+            len,
+            value,
+            key,
+        };
+    }
+    Neighbour {
+        outcome: Outcome::Nothing,
+        len,
+        value,
+        key,
+    }
+}
+
+// For a record that is known to hold entries.
+pub fn first_at_or_above_sound(x: Index, k: &[u8]) -> Neighbour
+    requires { ⌜ IsSound (entriesOf x) ⌝ }
+    ensures { λ r. ⌜ Answers (firstAtOrAbove (now (k .entry))) (entriesOf x) (neighbourReply r) × (r .len ≤ 16) ⌝ }
+{
+    if !is_key(k) {
+        return refusal(3);
+    }
+    let root = radix::wide_link(x.root);
+    let first = radix::link_at(&x.child, root);
+    neighbour_of(radix_walk::first_from(
+        &x.len,
+        &x.key,
+        &x.child,
+        &x.next,
+        &x.val,
+        &x.label,
+        first,
+        k,
+    ))
+}
+
+pub fn last_at_or_below_sound(x: Index, k: &[u8]) -> Neighbour
+    requires { ⌜ IsSound (entriesOf x) ⌝ }
+    ensures { λ r. ⌜ Answers (lastAtOrBelow (now (k .entry))) (entriesOf x) (neighbourReply r) × (r .len ≤ 16) ⌝ }
+{
+    if !is_key(k) {
+        return refusal(3);
+    }
+    let root = radix::wide_link(x.root);
+    let first = radix::link_at(&x.child, root);
+    neighbour_of(radix_walk::last_from(
+        &x.len,
+        &x.key,
+        &x.child,
+        &x.next,
+        &x.val,
+        &x.label,
+        first,
+        k,
+    ))
+}
+
+pub fn first_at_or_above(x: Index, k: &[u8]) -> Neighbour
+    ensures { λ r. ⌜ Answers (firstAtOrAbove (now (k .entry))) (entriesOf x) (neighbourReply r) × (r .len ≤ 16) ⌝ }
+{
+    let l = radix::list(x);
+    if !l.ok {
+        return refusal(2);
+    }
+    first_at_or_above_sound(x, k)
+}
+
+pub fn last_at_or_below(x: Index, k: &[u8]) -> Neighbour
+    ensures { λ r. ⌜ Answers (lastAtOrBelow (now (k .entry))) (entriesOf x) (neighbourReply r) × (r .len ≤ 16) ⌝ }
+{
+    let l = radix::list(x);
+    if !l.ok {
+        return refusal(2);
+    }
+    last_at_or_below_sound(x, k)
+}

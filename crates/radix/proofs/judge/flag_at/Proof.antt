@@ -1,0 +1,21 @@
+-- `flag_at` meets its contract. Assumes nothing.
+use mathlib.Core.Bool.{Bool, true, false}
+use mathlib.Core.Path.{_≡_, refl, sym, ap, _∙_}
+use mathlib.Core.List.{List}
+use Prim.Native.Nat.{ℕ, _*_, _+_, _-_, _<_, _≤_}
+use native.Mathlib.Omega.{arith}
+use borrow.Author.Needs.{needs}
+use borrow.Author.Tests.{eq-eqb, ne-eqb, not-true, not-false}
+use lib.ListN.{length, getD}
+use Rattle.radix.specs.Record.{Nodes, lent, areClean}
+use Rattle.radix.proofs.judge.flag_at.Statement.{statement}
+use Rattle.radix.proofs.judge.flag_at.Tie as tie
+
+pub flag-at-spec : {M : Type 1} → statement M
+flag-at-spec =
+    tie.close
+    (tie.spec
+    (λ c κs. search needs)
+    (λ c κs. search needs)
+    (λ c. rw (← c.before.before .byte-at .ensures .0, c.before .if1 .taken, ← c .word-at .ensures .0))
+    (λ c. rw (← c.before .byte-at .ensures .0, ne-eqb _ _ (c .if1 .left))))

@@ -1,0 +1,109 @@
+-- How a shape is laid into the pool: the later siblings of a node first, then what lies below it, then the node, each at the next free
+-- place. {foo: 7, foobar: 9}: bar at 1, foo at 2, and the root at 0 (the drawing of Record). Assumes nothing.
+use mathlib.Core.Bool.{Bool, true, false}
+use mathlib.Core.Path.{_≡_, refl}
+use mathlib.Core.List.{List, [], _∷_, _++_}
+use mathlib.Core.Option.{Option, some, none}
+use Prim.Native.Nat.{ℕ, zero, suc, _+_, _*_}
+use lib.Dec.{eqb}
+use lib.ListN.{length, getD, set, take, drop}
+use Rattle.octets.specs.Pick.{pick, both}
+use Rattle.octets.specs.Bytes.{zeros}
+use Rattle.octets.specs.Place.{put}
+use Rattle.radix.specs.Entries.{Entry, entry}
+use Rattle.radix.specs.Shape.{Shape, nil, node, nodes, prefixOf, cut, firstByte, shape}
+use Rattle.radix.specs.Record.{Nodes}
+use Rattle.radix.specs.declared.Index.{Index}
+
+abbrev pub flagOf : Option ℕ → ℕ
+flagOf none = 0
+flagOf (some v) = 1
+
+abbrev pub valueOr0 : Option ℕ → ℕ
+valueOr0 none = 0
+valueOr0 (some v) = v
+
+-- the fields of place p written
+abbrev pub withCell : Nodes → ℕ → List ℕ → ℕ → ℕ → ℕ → ℕ → Nodes
+withCell x p label key val child next =
+    record {
+      len = set (x .len) p (length label);
+      key = set (x .key) p key;
+      child = set (x .child) p child;
+      next = set (x .next) p next;
+      val = set (x .val) p val;
+      label = put (x .label) (16 * p) label;
+    }
+
+-- the link to a shape that is laid from place n on: its first node comes last
+abbrev pub linkTo : ℕ → Shape → ℕ
+linkTo n nil = 0
+linkTo n (node label v below later) = n + nodes (node label v below later)
+
+unfoldable pub laid : Shape → ℕ → Nodes → Nodes
+laid nil n x = x
+laid (node label v below later) n x =
+    withCell (laid below (n + nodes later) (laid later n x)) (n + nodes later + nodes below) label (flagOf v) (valueOr0 v) (linkTo (n + nodes later) below) (linkTo n later)
+
+unfoldable pub blank : Nodes
+blank = record { len = zeros 256; key = zeros 256; child = zeros 256; next = zeros 256; val = zeros 256; label = zeros 4096 }
+
+-- the root at place 0, its tree from place 1 on
+unfoldable pub placeShape : Shape → Index
+placeShape s =
+    record {
+      root = 0;
+      len = laid s 1 blank .len;
+      key = laid s 1 blank .key;
+      child = set (laid s 1 blank .child) 0 (linkTo 1 s);
+      next = laid s 1 blank .next;
+      val = laid s 1 blank .val;
+      label = laid s 1 blank .label;
+    }
+
+pub recordOf : List Entry → Index
+recordOf es = placeShape (shape es)
+
+-- the same, opened for this crate's proofs
+pub record-is : (es : List Entry) → recordOf es ≡ placeShape (shape es)
+unfolding recordOf
+record-is es = refl
+
+-- The shape of rising entries, made in one pass: how many of them start like the first
+unfoldable pub alike : ℕ → List Entry → ℕ
+alike b [] = 0
+alike b (e ∷ es) = pick (eqb (firstByte (e .key)) b) (suc (alike b es)) 0
+
+abbrev pub group : List Entry → ℕ
+group [] = 0
+group (e ∷ es) = suc (alike (firstByte (e .key)) es)
+
+-- how long their label is: a run for an only child, else one byte
+abbrev pub stretch : Bool → List Entry → ℕ
+stretch first es = pick (both first (eqb (group es) (length es))) (length (prefixOf es)) 1
+
+-- the key that ends here comes first, if there is one
+abbrev pub ownFirst : List Entry → Option ℕ
+ownFirst [] = none
+ownFirst (e ∷ es) = elim (e .key) [ [] ↦ some (e .value) | b ∷ k ↦ none ]
+
+abbrev pub afterOwn : List Entry → List Entry
+afterOwn [] = []
+afterOwn (e ∷ es) = elim (e .key) [ [] ↦ es | b ∷ k ↦ e ∷ es ]
+
+abbrev pub firstKey : List Entry → List ℕ
+firstKey [] = []
+firstKey (e ∷ es) = e .key
+
+abbrev pub sproutNode : (Bool → List Entry → Shape) → ℕ → List Entry → List Entry → Shape
+sproutNode go n es later =
+    node (take n (firstKey es)) (ownFirst (cut n es)) (go true (afterOwn (cut n es))) (go false later)
+
+abbrev pub sproutAll : (Bool → List Entry → Shape) → Bool → List Entry → Shape
+sproutAll go first [] = nil
+sproutAll go first (e ∷ es) = sproutNode go (stretch first (e ∷ es)) (take (group (e ∷ es)) (e ∷ es)) (drop (group (e ∷ es)) (e ∷ es))
+
+-- siblings and what lies below them; `first` says that none stands before them
+unfoldable pub sprout : ℕ → Bool → List Entry → Shape
+sprout zero first es = nil
+sprout (suc most) first es = sproutAll (sprout most) first es

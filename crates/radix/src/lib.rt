@@ -1,0 +1,56 @@
+// The record of a radix index of up to 64 keys of 1 to 16 bytes: its validation and listing, and a record made of a table. What each
+// answers is said in specs/.
+
+mod construction;
+mod gather;
+mod judge;
+mod pool;
+mod validation;
+
+pub use construction::build;
+pub use construction::row_len;
+pub use judge::leads;
+pub use pool::byte_at;
+pub use pool::label_len;
+pub use pool::link_at;
+pub use pool::wide_link;
+pub use pool::word_at;
+pub use validation::list;
+pub use validation::table_of;
+
+// The record, drawn in specs/Record.antt.
+pub struct Index {
+    pub root: u16,
+    pub len: [u8; 256],
+    pub key: [u8; 256],
+    pub child: [u16; 256],
+    pub next: [u16; 256],
+    pub val: [u32; 256],
+    pub label: [u8; 4096],
+}
+
+// The value of a key, if it is held.
+pub enum Found {
+    Value(u32),
+    Nothing,
+}
+
+// How many rows a table has after rows were gathered; or they did not fit it.
+pub enum Gathered {
+    Rows(usize),
+    TooMany,
+}
+
+// Entries in order: n rows, the key of row i at 16 i.
+pub struct Table {
+    pub n: usize,
+    pub len: [u8; 64],
+    pub val: [u32; 64],
+    pub key: [u8; 1024],
+}
+
+// The entries of a record, where ok says that it holds any.
+pub struct Listed {
+    pub ok: bool,
+    pub table: Table,
+}

@@ -1,0 +1,79 @@
+// The bytes of a record.
+
+ghost use mathlib.Core.Path.{_≡_};
+ghost use mathlib.Core.List.{_++_};
+ghost use Prim.Native.Nat.{_+_, _^_, _≤_, _<_};
+ghost use lib.ListN.{length};
+ghost use Rattle.octets.specs.Bytes.{le};
+ghost use Rattle.octets.specs.Place.{put};
+ghost use Rattle.radix_bytes.specs.Bytes.{recordSize, wordBytes, bytesOf, recordFrom, Fit};
+use radix::Index;
+
+fn wide_link(x: u16) -> u64
+    ensures { λ r. ⌜ (r ≡ x) × (r < 2 ^ 16) ⌝ }
+{
+    x as u64
+}
+
+fn wide_value(x: u32) -> u64
+    ensures { λ r. ⌜ (r ≡ x) × (r < 2 ^ 32) ⌝ }
+{
+    x as u64
+}
+
+fn write_links(out: &mut [u8], at: usize, a: &[u16])
+    requires { ⌜ (at + 512 ≤ length (now out)) × (length (now a) ≡ 256) ⌝ }
+    ensures { λ _. ⌜ (now (out .exit) ≡ put (now (out .entry)) at (wordBytes 2 (now (a .entry)))) × Fit 2 (now (a .entry)) ⌝ }
+{
+    let mut i = 0;
+    while i < 256 {
+        octets::write_le(out, at + 2 * i, 2, wide_link(a[i]));
+        i += 1;
+    }
+}
+
+fn write_values(out: &mut [u8], at: usize, a: &[u32])
+    requires { ⌜ (at + 1024 ≤ length (now out)) × (length (now a) ≡ 256) ⌝ }
+    ensures { λ _. ⌜ (now (out .exit) ≡ put (now (out .entry)) at (wordBytes 4 (now (a .entry)))) × Fit 4 (now (a .entry)) ⌝ }
+{
+    let mut i = 0;
+    while i < 256 {
+        octets::write_le(out, at + 4 * i, 4, wide_value(a[i]));
+        i += 1;
+    }
+}
+
+fn write_head<'a>(root: u16, len: &'a [u8], key: &'a [u8], out: &mut [u8])
+    requires { ⌜ (length (now len) ≡ 256) × ((length (now key) ≡ 256) × (length (now out) ≡ recordSize)) ⌝ }
+    ensures { λ _. ⌜ (now (out .exit) ≡ put (now (out .entry)) 0 (le 2 root ++ (now (len .entry) ++ now (key .entry)))) × (root < 2 ^ 16) ⌝ }
+{
+    octets::write_le(out, 0, 2, wide_link(root));
+    octets::copy_in(out, 2, len);
+    octets::copy_in(out, 258, key);
+}
+
+fn write_tree<'a>(child: &'a [u16], next: &'a [u16], out: &mut [u8])
+    requires { ⌜ (length (now child) ≡ 256) × ((length (now next) ≡ 256) × (length (now out) ≡ recordSize)) ⌝ }
+    ensures { λ _. ⌜ (now (out .exit) ≡ put (now (out .entry)) 514 (wordBytes 2 (now (child .entry)) ++ wordBytes 2 (now (next .entry)))) × (Fit 2 (now (child .entry)) × Fit 2 (now (next .entry))) ⌝ }
+{
+    write_links(out, 514, child);
+    write_links(out, 1026, next);
+}
+
+fn write_tail<'a>(val: &'a [u32], label: &'a [u8], out: &mut [u8])
+    requires { ⌜ (length (now val) ≡ 256) × ((length (now label) ≡ 4096) × (length (now out) ≡ recordSize)) ⌝ }
+    ensures { λ _. ⌜ (now (out .exit) ≡ put (now (out .entry)) 1538 (wordBytes 4 (now (val .entry)) ++ now (label .entry))) × Fit 4 (now (val .entry)) ⌝ }
+{
+    write_values(out, 1538, val);
+    octets::copy_in(out, 2562, label);
+}
+
+// What is written reads back as the record.
+pub fn to_bytes(x: Index, out: &mut [u8])
+    requires { ⌜ length (now out) ≡ recordSize ⌝ }
+    ensures { λ _. ⌜ (now (out .exit) ≡ bytesOf x) × (recordFrom (now (out .exit)) ≡ x) ⌝ }
+{
+    write_head(x.root, &x.len, &x.key, out);
+    write_tree(&x.child, &x.next, out);
+    write_tail(&x.val, &x.label, out);
+}

@@ -1,0 +1,74 @@
+-- `least` meets its contract: what is left to go down answers what the whole way does. Assumes nothing.
+use mathlib.Core.Bool.{true}
+use mathlib.Core.Path.{_≡_, refl, sym, ap, _∙_}
+use mathlib.Core.List.{List}
+use Prim.Native.Nat.{ℕ, _≤_, _<_}
+use native.Mathlib.Omega.{arith}
+use borrow.Author.Needs.{needs}
+use lib.ListN.{length, take}
+use Rattle.radix.specs.Record.{Nodes, lent, leadsOn, treeAt}
+use Rattle.radix.specs.Walk.{leastIn}
+use Rattle.radix_walk.specs.Neighbours.{nearOf, cutKey, leastFrom}
+use Rattle.radix.proofs.Turns.{leads-to}
+use Rattle.radix_walk.proofs.Paths.{Down, least-own, least-below, least-start, least-end}
+use Rattle.radix_walk.proofs.near.least.Statement.{statement}
+use Rattle.radix_walk.proofs.near.least.Tie as tie
+
+abbrev Inv-loop : tie.InvT-loop
+Inv-loop len key child val label k path₀ n₀ at₀ left₀ path n at left =
+    (length path ≡ 16)
+    × (n ≤ 16)
+    × ((next : List ℕ) → cutKey (leastIn (take n path) (treeAt left (lent len key child next val label) at)) ≡ cutKey (leastIn (take n₀ path₀) (treeAt left₀ (lent len key child next val label) at₀)))
+
+abbrev μ-loop : tie.MeasureT-loop
+μ-loop len key child val label k path₀ n₀ at₀ left₀ path n at left = left
+
+abbrev pool : tie.Start Inv-loop μ-loop → List ℕ → Nodes
+pool s next = let x = s .args in lent (x .len .now) (x .key .now) (x .child .now) next (x .val .now) (x .label .now)
+
+on : (c : tie.Then1 Inv-loop μ-loop) → leadsOn (c.before.before .loop .left) (c.before.before .loop .at) ≡ true
+on c = sym (c.before .leads .ensures) ∙ c .if1 .taken
+
+up : (c : tie.Then1 Inv-loop μ-loop) → (0 < c.before.before .loop .left) × (0 < c.before.before .loop .at) × (c.before.before .loop .at ≤ 256)
+up c = leads-to (c.before.before .loop .left) (c.before.before .loop .at) (on c)
+
+down : (c : tie.After-laid2 Inv-loop μ-loop) (next : List ℕ)
+    → Down (pool c.before.before.before.before.before.before.before.before.before.before.before next) (c.before.before.before.before.before .loop .left) (c.before.before.before.before.before .loop .at) (c.before .label-len .result) (take (c.before.before.before.before.before .loop .n) (c.before.before.before.before.before .loop .path)) (take (c .laid2 .result) (c .laid2 .last .0))
+down c next = record { on = on c.before.before.before; bytes = c.before .label-len .ensures .0; laid = c .laid2 .ensures .1 }
+
+whole : (c : tie.At-loop Inv-loop μ-loop) (next : List ℕ)
+    → cutKey (leastIn (take (c .loop .n) (c .loop .path)) (treeAt (c .loop .left) (pool c.before.before.before.before.before.before next) (c .loop .at))) ≡ cutKey (leastFrom (pool c.before.before.before.before.before.before next) (c.before.before.before.before.before.before .args .k .now) (c.before.before.before.before.before.before .args .s))
+whole c next = c .loop .inv .2 next ∙ least-start (pool c.before.before.before.before.before.before next) (c.before.before.before.before.before.before .args .k .now) (c.before.before.before.before.before.before .args .s) (take (c.before.before .laid .result) (c.before.before .laid .last .0)) (c.before.before .laid .ensures .1)
+
+long : (c : tie.After-laid2 Inv-loop μ-loop) → length (c .laid2 .last .0) ≡ 16
+long c = c .laid2 .kept .0 ∙ c.before.before.before.before.before .loop .inv .0
+
+pub least-spec : {M : Type 1} → statement M
+least-spec =
+    tie.close
+    (tie.spec Inv-loop μ-loop
+    (λ c. refl)
+    (λ c κs. omega arith)
+    (λ c. (c.before .laid .kept .0, c.before .laid .ensures .0, λ next. refl))
+    (λ c κs. search needs)
+    (λ c. omega (arith, up c))
+    (λ c. sym (c.before.before.before .loop .inv .0))
+    (λ c. omega (arith, up c.before))
+    (λ c κs. omega (arith, up c.before))
+    (λ c κs. omega (arith, up c.before.before, c.before.before.before.before.before.before.before.before.before.before .pre))
+    (λ c κs. omega (arith, up c.before.before.before.before))
+    (λ c. sym (long c.before.before.before.before))
+    (λ c κs. omega (arith, up c.before.before.before.before.before.before.before))
+    (λ c κs. (long c.before.before.before.before.before, c.before.before.before.before.before .laid2 .ensures .0))
+    (λ c next.
+    c .entry-of .ensures
+    ∙ ap nearOf (least-own (down c.before.before.before.before.before.before next) (c.before .word-at .result) (λ z. c.before.before.before .if2 .taken (c.before.before.before.before .byte-at .ensures .0 ∙ z)) (c.before .word-at .ensures .0) ∙ whole c.before.before.before.before.before.before.before.before.before.before.before next))
+    (λ c κs. omega (arith, up c.before.before.before.before.before.before))
+    (λ c. omega (arith, up c.before.before.before.before.before.before.before))
+    (λ c. omega (arith, up c.before.before.before.before.before.before.before))
+    (λ c.
+    (long c.before.before.before.before, c.before.before.before.before .laid2 .ensures .0, λ next. least-below (down c.before.before.before.before next) (c .link-at .result) (sym (c.before.before .byte-at .ensures .0) ∙ c.before .if2 .left) (c .link-at .ensures .0) ∙ c.before.before.before.before.before.before.before.before.before .loop .inv .2 next))
+    (λ c κs. search needs)
+    (λ c next.
+    let l = c.before.before.before .loop in
+    c .nothing .ensures ∙ ap nearOf (least-end (pool c.before.before.before.before.before.before.before.before.before next) (take (l .n) (l .path)) (l .left) (l .at) (sym (c.before.before .leads .ensures) ∙ c.before .if1 .left) ∙ whole c.before.before.before next)))
