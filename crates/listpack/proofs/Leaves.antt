@@ -170,15 +170,6 @@ module _ (s : List ℕ) (b c : ℕ) (two : 2 ≤ length s) (x : getD s 0 0 ≡ b
   read-tagged h =
       by-first ∙ simp (le-ltb b 128 (omega arith), le-ltb b 192 (omega arith), le-ltb b 224 (omega arith), le-ltb)
 
-pub tag-most : (b : ℕ) → tagWidth b ≤ 8
-unfolding tagWidth
-tag-most b =
-    let P : ℕ → Type 0 = λ w. w ≤ 8 in
-    pick-eq P b 241 _ _ (λ e. omega arith) λ x.
-    pick-eq P b 242 _ _ (λ e. omega arith) λ y.
-    pick-eq P b 243 _ _ (λ e. omega arith) λ z.
-    pick-eq P b 244 _ _ (λ e. omega arith) λ u. omega arith
-
 -- F1 to F4, and any other
 module _ (b : ℕ) where
   pub tag-16 : b ≡ 241 → tagWidth b ≡ 2

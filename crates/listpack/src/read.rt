@@ -105,25 +105,6 @@ fn as_text(at: usize, l: usize, stands: bool) -> Element
     Element::Bad
 }
 
-// F1 to F4; 0 for a byte that has no form.
-fn tag_width(b: u64) -> usize
-    ensures { λ r. ⌜ r ≡ tagWidth b ⌝ }
-{
-    if b == 241 {
-        return 2;
-    }
-    if b == 242 {
-        return 3;
-    }
-    if b == 243 {
-        return 4;
-    }
-    if b == 244 {
-        return 8;
-    }
-    0
-}
-
 // The number in the w bytes after the first.
 fn wide_value(s: &[u8], w: usize) -> u64
     requires { ⌜ (1 ≤ w) × (w ≤ 8) × (w < length (now s)) ⌝ }
@@ -145,6 +126,25 @@ fn read_wide(s: &[u8], w: usize) -> Element
     }
     let v = wide_value(s, w);
     as_integer(v, 1 + w, integer_stands(s, v, 1 + w))
+}
+
+// F1 to F4; no other byte from 240 on has a form. Each width stands there as a number, so that its loop is unrolled.
+fn read_tagged(s: &[u8], b: u64) -> Element
+    ensures { λ r. ⌜ r ≡ readWide (tagWidth b) (now (s .entry)) ⌝ }
+{
+    if b == 241 {
+        return read_wide(s, 2);
+    }
+    if b == 242 {
+        return read_wide(s, 3);
+    }
+    if b == 243 {
+        return read_wide(s, 4);
+    }
+    if b == 244 {
+        return read_wide(s, 8);
+    }
+    Element::Bad
 }
 
 // The element at the start of s, by its first byte.
@@ -171,5 +171,5 @@ pub fn read_element(s: &[u8]) -> Element
         let l = (256 * (b - 224) + c) as usize;
         return as_text(2, l, text_stands(s, 2, l));
     }
-    read_wide(s, tag_width(b))
+    read_tagged(s, b)
 }

@@ -7,6 +7,7 @@ ghost use lib.ListN.{length};
 ghost use Rattle.octets.specs.Place.{put};
 ghost use Rattle.listpack.specs.Element.{IsWide, integer, text, integerBody, textHead, backLength, encodeItem, element};
 use crate::form::HALF_SHORT;
+use crate::form::Wide;
 use crate::form::fits;
 use crate::form::narrow;
 use crate::form::wide_form;
@@ -61,6 +62,24 @@ fn write_wide(d: &mut [u8], at: usize, tag: u64, w: usize, half: u64, p: u64) ->
     1 + w
 }
 
+// A small width stands there as a number, so that its loop is unrolled.
+fn write_form(d: &mut [u8], at: usize, f: Wide, p: u64) -> usize
+    requires { ⌜ (IsWide p (f .tag) (f .w) (f .half)) × (at + length (integerBody p) ≤ length (now d)) ⌝ }
+    ensures { λ r. ⌜ (r ≡ length (integerBody p)) × (now (d .exit) ≡ put (now (d .entry)) at (integerBody p)) ⌝ }
+{
+    let w = f.w;
+    if w == 2 {
+        return write_wide(d, at, f.tag, 2, f.half, p);
+    }
+    if w == 3 {
+        return write_wide(d, at, f.tag, 3, f.half, p);
+    }
+    if w == 4 {
+        return write_wide(d, at, f.tag, 4, f.half, p);
+    }
+    write_wide(d, at, f.tag, w, f.half, p)
+}
+
 fn write_body(d: &mut [u8], at: usize, p: u64) -> usize
     requires { ⌜ at + length (integerBody p) ≤ length (now d) ⌝ }
     ensures { λ r. ⌜ (r ≡ length (integerBody p)) × (now (d .exit) ≡ put (now (d .entry)) at (integerBody p)) ⌝ }
@@ -74,8 +93,7 @@ fn write_body(d: &mut [u8], at: usize, p: u64) -> usize
         put_two(d, at, 192 + v / 256, v % 256);
         return 2;
     }
-    let f = wide_form(p);
-    write_wide(d, at, f.tag, f.w, f.half, p)
+    write_form(d, at, wide_form(p), p)
 }
 
 // The answer is where the next byte goes.

@@ -1,8 +1,8 @@
 -- `listpack::read::read_element` meets its contract. Assumes nothing.
 use mathlib.Core.Path.{refl, sym, ap, _∙_}
 use native.Mathlib.Omega.{arith}
-use Rattle.listpack.proofs.Leaves.{read-none, read-tiny, read-text, read-short, read-long, read-tagged, tag-most}
-use Rattle.listpack.specs.Read.{asInteger, asText, readWide}
+use Rattle.listpack.proofs.Leaves.{read-none, read-tiny, read-text, read-short, read-long, read-tagged}
+use Rattle.listpack.specs.Read.{asInteger, asText}
 use Prim.Native.Nat.{_+_, _-_, _*_}
 use denote.Ref.{now}
 use borrow.Author.Needs.{needs}
@@ -39,6 +39,4 @@ read-element-spec =
     (λ c. let l = 256 * (c .before .before .before .before .before .before .before .before .wide .result - 224) + c .before .before .before .before .wide2 .result in
     c .as-text2 .ensures ∙ ap (asText 2 l) (c .before .text-stands2 .ensures) ∙ sym (read-long _ _ _ (omega arith) (omega arith) (omega arith) (omega arith) (omega arith)))
     (λ c κs. search needs)
-    (λ c κs. omega (arith, tag-most (c .before .before .before .before .before .before .before .wide .result)))
-    (λ c. let s = now (c .before .before .before .before .before .before .before .before .before .before .before .before .args .s) in
-    c .read-wide .ensures ∙ ap (λ w. readWide w s) (c .before .tag-width .ensures) ∙ sym (read-tagged s (c .before .before .before .before .before .before .before .before .wide .result) _ (omega arith) (omega arith) refl (omega arith))))
+    (λ c. c .read-tagged .ensures ∙ sym (read-tagged _ (c .before .before .before .before .before .before .before .wide .result) _ (omega arith) (omega arith) refl (omega arith))))

@@ -32,6 +32,6 @@ write-body-spec =
     let f : fits 4096 (a .p) ≡ true = cc in
     (sym (size-2 _ (omega arith) f), c .before .before .put-two .ensures ∙ ap (λ v. put (now (a .d)) (a .at) ((192 + v / 256) ∷ (v % 256) ∷ [])) (c .before .before .before .before .narrow .ensures) ∙ ap (put (now (a .d)) (a .at)) (sym (body-is-2 (a .p) (omega arith) f))))
     (λ c κs. (omega arith, cc))
-    (λ c κs. (c .before .wide-form .ensures, c .before .before .before .before .before .before .pre))
+    (λ c κs. (c .wide-form .ensures, c .before .before .before .before .before .before .pre))
     (λ c. search needs)
-    (λ c. c .before .before .write-wide .ensures))
+    (λ c. c .before .before .write-form .ensures))
