@@ -1,5 +1,5 @@
-//! Runs a list of requests on a node in its slot and prints a line for each: the request's letter,
-//! the answer, and a checksum of the slot. With the argument `input` it writes the requests, as the
+//! Runs a list of requests on a node in its slot and prints, for each, the answer and a checksum of
+//! the slot. With the argument `input` it writes the requests, as the
 //! proved program reads them. The list is the same in every run.
 //!
 //! ```text
@@ -7,7 +7,7 @@
 //! ```
 //!
 //! S puts a node's bytes into the slot, under the first ID. J judges the slot: every ID above the
-//! first ID, and the last at most the second. X changes each byte of the slot by each mask and says
+//! first ID, and the last at most the second. X adds each step to each byte of the slot, modulo 256, and says
 //! where the slot is still accepted. M makes a node of one message, A appends one, D deletes the first
 //! ID, O deletes the oldest, R reads a message, N gives the next live ID, F a field's value.
 
@@ -62,13 +62,13 @@ impl State {
                 self.slot = request.bytes.clone();
                 self.slot.resize(SLOT_BYTES, 0);
                 self.key = request.first;
-                String::new()
+                "put".to_string()
             }
             b'X' => self.damage(&request.bytes),
             b'M' => self.make(request),
             _ => match node::read_slot(self.key, &self.slot) {
                 Ok(node) => self.answer_for(node, request),
-                Err(_) => " bad".to_string(),
+                Err(_) => "bad".to_string(),
             },
         }
     }
@@ -78,17 +78,17 @@ impl State {
         match request.letter {
             b'J' => judged(&node, request.first, request.second),
             b'A' => self.append(&node, request),
-            b'D' if node.live_count() == 1 => " last".to_string(),
+            b'D' if node.live_count() == 1 => "last".to_string(),
             b'D' => {
                 let found = node.delete(id);
                 self.put(&node);
-                format!(" {}", u8::from(found))
+                format!("deleted {}", u8::from(found))
             }
             b'O' => self.delete_oldest(node, request.bytes.len()),
             b'R' => read(&node, id, request.second.seq as usize),
             b'N' => match node.live().find(|entry| entry.id >= id) {
-                Some(entry) => format!(" {} {}", entry.id.ms, entry.id.seq),
-                None => " none".to_string(),
+                Some(entry) => format!("ms {}\nseq {}", entry.id.ms, entry.id.seq),
+                None => "none".to_string(),
             },
             b'F' => field(&node, id, &request.bytes),
             _ => unreachable!(),
@@ -97,88 +97,89 @@ impl State {
 
     fn make(&mut self, request: &Request) -> String {
         let Ok(pairs) = slip::read(&request.bytes) else {
-            return " no slip".to_string();
+            return "no slip".to_string();
         };
         if !node::fits_alone(&pairs) {
-            return " long".to_string();
+            return "long".to_string();
         }
         self.key = request.first;
         self.put(&Node::of_one(request.first, pairs));
-        " made".to_string()
+        "made".to_string()
     }
 
     fn append(&mut self, node: &Node, request: &Request) -> String {
         let Ok(pairs) = slip::read(&request.bytes) else {
-            return " no slip".to_string();
+            return "no slip".to_string();
         };
         if request.first <= node.greatest_id() {
-            return " not above".to_string();
+            return "not above".to_string();
         }
         match node.after_add(request.first, &pairs) {
             Some(after) => {
                 self.put(&after);
-                " appended".to_string()
+                "appended".to_string()
             }
-            None => " full".to_string(),
+            None => "full".to_string(),
         }
     }
 
     fn delete_oldest(&mut self, mut node: Node, count: usize) -> String {
         if node.live_count() <= count {
-            return " many".to_string();
+            return "many".to_string();
         }
         let oldest: Vec<Id> = node.live().take(count).map(|entry| entry.id).collect();
         for id in oldest {
             node.delete(id);
         }
         self.put(&node);
-        " trimmed".to_string()
+        "trimmed".to_string()
     }
 
-    /// At how many places and masks the changed slot is accepted, and a checksum over these.
-    fn damage(&mut self, masks: &[u8]) -> String {
+    /// At how many places and steps the changed slot is accepted, and a checksum over these.
+    fn damage(&mut self, steps: &[u8]) -> String {
         let (mut accepted, mut sum) = (0, 0);
         for place in 0..SLOT_BYTES {
-            for &mask in masks {
-                self.slot[place] ^= mask;
+            for &step in steps {
+                let old = self.slot[place];
+                self.slot[place] = old.wrapping_add(step);
                 if node::read_slot(self.key, &self.slot).is_ok() {
                     accepted += 1;
-                    sum = (sum * 31 + 256 * place + usize::from(mask)) % 65_521;
+                    sum = (sum * 31 + 256 * place + usize::from(step)) % 65_521;
                 }
-                self.slot[place] ^= mask;
+                self.slot[place] = old;
             }
         }
-        format!(" {accepted} {sum}")
+        format!("accepted {accepted}\nwhere {sum}")
     }
 }
 
 fn judged(node: &Node, above: Id, most: Id) -> String {
     if node.key() <= above || node.greatest_id() > most {
-        return " bad".to_string();
+        return "bad".to_string();
     }
     let last = node.greatest_id();
     let (live, deleted, elements) = (node.live_count(), node.deleted_count(), node.elements().len());
-    format!(" sound {live} {deleted} {} {} {elements}", last.ms, last.seq)
+    format!("live {live}\ndeleted {deleted}\nms {}\nseq {}\nelements {elements}", last.ms, last.seq)
 }
 
 fn read(node: &Node, id: Id, room: usize) -> String {
     let Some(entry) = node.live().find(|entry| entry.id == id) else {
-        return " missing".to_string();
+        return "missing".to_string();
     };
     let slip = slip::write(&entry.pairs);
     if room < slip.len() {
-        return " short".to_string();
+        return "short".to_string();
     }
-    format!(" {} {}", slip.len(), checksum(&slip))
+    format!("length {}\nslip {}", slip.len(), checksum(&slip))
 }
 
 fn field(node: &Node, id: Id, name: &[u8]) -> String {
     let Some(entry) = node.live().find(|entry| entry.id == id) else {
-        return " missing".to_string();
+        return "missing".to_string();
     };
     match value_of(&entry.pairs, name) {
-        Some(value) => format!(" {} {}", value.len(), checksum(value)),
-        None => " absent".to_string(),
+        Some(value) => format!("length {}\nvalue {}", value.len(), checksum(value)),
+        None => "absent".to_string(),
     }
 }
 
@@ -281,7 +282,8 @@ fn list(rng: &mut Rng, length: usize, small: bool) -> Vec<Request> {
 }
 
 fn changing(rng: &mut Rng) -> Vec<Request> {
-    let mut requests = Vec::new();
+    let long = slip::write(&vec![(b"a".to_vec(), vec![b'z'; 1_000]); 5]);
+    let mut requests = vec![Request::new(b'M', Id::GREATEST, Id::LEAST, &long)];
     for _ in 0..80 {
         let length = 10 + rng.size_below(60);
         requests.extend(list(rng, length, false));
@@ -303,7 +305,7 @@ fn requests() -> Vec<Request> {
 
 fn line(state: &mut State, request: &Request) -> String {
     let answer = state.answer(request);
-    format!("{}{answer} {}", char::from(request.letter), checksum(&state.slot))
+    format!("{answer}\nslot {}", checksum(&state.slot))
 }
 
 fn main() -> std::io::Result<()> {
@@ -315,4 +317,50 @@ fn main() -> std::io::Result<()> {
     let lines: Vec<String> = requests().iter().map(|request| line(&mut state, request)).collect();
     println!("{}", lines.join("\n"));
     Ok(())
+}
+
+#[cfg(test)]
+mod tests {
+    use super::*;
+
+    fn lines() -> Vec<String> {
+        let mut state = State::new();
+        let text: Vec<String> = requests().iter().map(|request| line(&mut state, request)).collect();
+        text.join("\n").lines().map(str::to_string).collect()
+    }
+
+    #[test]
+    fn answers_of_every_kind_come_up() {
+        let lines = lines();
+        for (start, least) in [
+            ("appended", 1_000),
+            ("full", 300),
+            ("no slip", 100),
+            ("not above", 20),
+            ("long", 1),
+            ("deleted 1", 500),
+            ("deleted 0", 200),
+            ("deleted 129", 1),
+            ("last", 30),
+            ("trimmed", 50),
+            ("many", 5),
+            ("slip", 150),
+            ("short", 30),
+            ("missing", 200),
+            ("value", 50),
+            ("absent", 50),
+            ("none", 30),
+            ("elements", 300),
+            ("bad", 100),
+            ("accepted", 8),
+        ] {
+            let count = lines.iter().filter(|line| line.starts_with(start)).count();
+            assert!(count >= least, "{start}: {count}");
+        }
+    }
+
+    #[test]
+    fn checksums_are_those_of_rfc_1950() {
+        assert_eq!(checksum(b"Wikipedia"), 0x11E6_0398);
+    }
 }
