@@ -50,8 +50,8 @@ fn answer(slot: &mut [u8], key: Id, letter: u8, first: Id, second: Id, s: &[u8])
             judging::damage(slot, key, s);
             key
         }
-        b'A' => {
-            changing::append(slot, key, first, s);
+        b'A' | b'D' | b'O' => {
+            changing::change(slot, key, letter, first, s);
             key
         }
         _ => key,

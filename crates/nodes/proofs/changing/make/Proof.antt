@@ -1,85 +1,43 @@
+-- `make` meets what it calls asks: the slot is zeros, and the message fits alone. Assumes nothing.
+use mathlib.Core.Path.{_≡_, sym, _∙_}
+use mathlib.Core.Bool.{true}
+use native.Mathlib.Omega.{arith}
+use borrow.Author.Tests.{not-false}
 use borrow.Author.Needs.{needs}
+use Rattle.id.specs.Id.{Fits64}
+use Rattle.slip.specs.Answer.{isSlip}
+use Rattle.node.specs.Step.{fitsAlone}
+use Rattle.node_write.specs.Answer.{messageIn}
+use Rattle.nodes.proofs.Made.{zeroed, id-is, fits-alone}
 use Rattle.nodes.proofs.changing.make.Statement.{statement}
 use Rattle.nodes.proofs.changing.make.Tie as tie
-use Rattle.nodes.proofs.changing.make.Reads as reads
-use Rattle.nodes.proofs.changing.make.Lts as lts
-use Rattle.node_write.proofs.make.Reads as make-reads
-use Rattle.node_write.proofs.size_alone.Reads as size-alone-reads
-use Rattle.octets.proofs.zero.Reads as zero-reads
-use Rattle.show.proofs.text.Reads as text-reads
-use Rattle.slip.proofs.check_slip.Reads as check-slip-reads
 
--- src/changing.rt:12:9
-check-slip-requires : tie.Need-check-slip-requires
-check-slip-requires c κs = search needs
+is-slip : (c : tie.Else1) → isSlip (c .before .before .before .before .args .slip .now) ≡ true
+is-slip c = sym (c .before .check-slip .ensures) ∙ not-false _ (c .if1 .left)
 
--- src/changing.rt:13:20
-slice-aggregate-text : tie.Need-slice-aggregate-text
-slice-aggregate-text c = search needs
+fits : (c : tie.After-slice-known) → Fits64 (c .before .args .id)
+fits c = record { ms-fits = omega arith; seq-fits = omega arith }
 
--- src/changing.rt:13:9
-text-requires : tie.Need-text-requires
-text-requires c κs = search needs
-
--- src/changing.rt:14:9
-returns : tie.Need-returns
-returns c = search needs
-
--- src/changing.rt:16:15
-size-alone-requires : tie.Need-size-alone-requires
-size-alone-requires c κs = ?
-
--- src/changing.rt:17:20
-slice-aggregate-text-2 : tie.Need-slice-aggregate-text-2
-slice-aggregate-text-2 c = search needs
-
--- src/changing.rt:17:9
-text-requires-2 : tie.Need-text-requires-2
-text-requires-2 c κs = search needs
-
--- src/changing.rt:18:9
-returns-2 : tie.Need-returns-2
-returns-2 c = search needs
-
--- src/changing.rt:20:5
-zero-requires : tie.Need-zero-requires
-zero-requires c κs = search needs
-
--- src/changing.rt:21:5
-make-requires : tie.Need-make-requires
-make-requires c κs = ?
-
--- src/changing.rt:22:16
-slice-aggregate-text-3 : tie.Need-slice-aggregate-text-3
-slice-aggregate-text-3 c = search needs
-
--- src/changing.rt:22:5
-text-requires-3 : tie.Need-text-requires-3
-text-requires-3 c κs = search needs
-
--- src/changing.rt:9:1
-same-length : tie.Need-same-length
-same-length c = search needs
-
--- src/changing.rt:9:1
-returns-3 : tie.Need-returns-3
-returns-3 c = search needs
+alone : (c : tie.Else2) → let a = c .before .before .before .before .before .before .args in fitsAlone (messageIn (a .id) (a .slip .now)) ≡ true
+alone c =
+    let a = c .before .before .before .before .before .before .args in
+    fits-alone (messageIn (a .id) (a .slip .now)) (c .before .size-alone .result) (c .before .size-alone .ensures (a .id) (id-is (a .id) (fits (c .before .before .before .before .before)))) (omega arith)
 
 pub make-spec : {M : Type 1} → statement M
 make-spec =
     tie.close
     (tie.spec
-    check-slip-requires
-    slice-aggregate-text
-    text-requires
-    returns
-    size-alone-requires
-    slice-aggregate-text-2
-    text-requires-2
-    returns-2
-    zero-requires
-    make-requires
-    slice-aggregate-text-3
-    text-requires-3
-    same-length
-    returns-3)
+    (λ c κs. search needs)
+    (λ c. search needs)
+    (λ c κs. search needs)
+    (λ c. search needs)
+    (λ c κs. is-slip c)
+    (λ c. search needs)
+    (λ c κs. search needs)
+    (λ c. search needs)
+    (λ c κs. search needs)
+    (λ c κs. (zeroed 4096 (c .before .before .before .before .before .before .before .before .before .before .before .args .slot .now) _ (c .before .before .before .before .before .before .before .before .before .before .before .pre) (c .before .before .before .zero .ensures), is-slip (c .before .before .before .before .before .before .before), alone (c .before .before .before .before .before)))
+    (λ c. search needs)
+    (λ c κs. search needs)
+    (λ c. search needs)
+    (λ c. search needs))
