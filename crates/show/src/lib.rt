@@ -59,3 +59,21 @@ pub fn count(label: &[u8], n: u64) {
     io::print_decimal(STDOUT_FILENO, n);
     text(b"\n");
 }
+
+// Adler-32 (RFC 1950).
+fn checksum(s: &[u8]) -> u64 {
+    let mut a: u64 = 1;
+    let mut b: u64 = 0;
+    let mut i = 0;
+    while i < s.len() {
+        a = (a + octets::wide(s[i])) % 65521;
+        b = (b + a) % 65521;
+        i += 1;
+    }
+    b * 65536 + a
+}
+
+// A label, a space and the checksum of bytes, on a line.
+pub fn sum(label: &[u8], s: &[u8]) {
+    count(label, checksum(s));
+}
