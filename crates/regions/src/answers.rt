@@ -10,23 +10,6 @@ ghost use Prim.Native.Nat.{_≤_};
 ghost use lib.ListN.{length};
 ghost use Rattle.groups.specs.Answer.{SoundRegion};
 
-// Adler-32 (RFC 1950).
-fn checksum(s: &[u8]) -> u64 {
-    let mut a: u64 = 1;
-    let mut b: u64 = 0;
-    let mut i = 0;
-    while i < s.len() {
-        a = (a + octets::wide(s[i])) % 65521;
-        b = (b + a) % 65521;
-        i += 1;
-    }
-    b * 65536 + a
-}
-
-pub fn show_checksum(label: &[u8], s: &[u8]) {
-    show::count(label, checksum(s));
-}
-
 // A label, and two digits for each byte, on a line.
 fn show_bytes(label: &[u8], s: &[u8]) {
     show::text(label);
@@ -139,7 +122,7 @@ fn find(region: &[u8], name: &[u8], id: Id)
 fn read_back(body: &[u8]) {
     let mut region = [255u8; 7220];
     group_body::read_body(body, &mut region);
-    show_checksum(b"back", &region);
+    show::sum(b"back", &region);
 }
 
 fn body(region: &[u8])

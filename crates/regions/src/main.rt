@@ -134,10 +134,10 @@ fn next_operation(region: &mut [u8], area: &mut [u8]) -> bool
     }
     if operation[0] < 10 {
         run_region(region, &operation);
-        answers::show_checksum(b"region", region);
+        show::sum(b"region", region);
     } else {
         run_area(area, region, &operation);
-        answers::show_checksum(b"area", area);
+        show::sum(b"area", area);
     }
     true
 }
