@@ -85,10 +85,10 @@ fn remove_in(x: Index, t: Table, k: &[u8]) -> Changed
     }
     let i = rank_of(t, k);
     if is_row(t, i, k) {
-        let y = radix::build(without_row(t, i));
+        let fewer = radix::build(without_row(t, i));
         return Changed {
             answer: Answer::Removed(1),
-            index: y,
+            index: fewer,
         };
     }
     Changed {
