@@ -1,2 +1,3 @@
 -- Assumes nothing.
 pub mod Made
+pub mod Fits

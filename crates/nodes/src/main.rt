@@ -12,6 +12,7 @@ use libc::STDIN_FILENO;
 
 mod changing;
 mod judging;
+mod reading;
 
 ghost use mathlib.Core.Path.{_≡_};
 ghost use Prim.Native.Nat.{_≤_};
@@ -52,6 +53,10 @@ fn answer(slot: &mut [u8], key: Id, letter: u8, first: Id, second: Id, s: &[u8])
         }
         b'A' | b'D' | b'O' => {
             changing::change(slot, key, letter, first, s);
+            key
+        }
+        b'R' | b'N' | b'F' => {
+            reading::ask(slot, key, letter, first, second, s);
             key
         }
         _ => key,

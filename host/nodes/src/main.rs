@@ -203,7 +203,7 @@ fn judging(rng: &mut Rng) -> Vec<Request> {
         for (above, most) in [(Id::LEAST, Id::GREATEST), (Id::LEAST, last), (key, Id::GREATEST), (Id::LEAST, key)] {
             requests.push(Request::new(b'J', above, most, &[]));
         }
-        if number % 6 == 0 {
+        if number % 10 == 0 {
             requests.push(Request::new(b'X', Id::LEAST, Id::LEAST, &[0x01, 0x80, 0xFF]));
         }
         // Under another key, and the elements of another size.
@@ -352,7 +352,7 @@ mod tests {
             ("none", 30),
             ("elements", 300),
             ("bad", 100),
-            ("accepted", 8),
+            ("accepted", 6),
         ] {
             let count = lines.iter().filter(|line| line.starts_with(start)).count();
             assert!(count >= least, "{start}: {count}");
