@@ -1,4 +1,6 @@
-// What the benchmark under host/bench calls: the reader and the writers of whole listpacks, exported to C.
+// What the benchmark under host/bench calls, exported to C: the reader and the writers of whole listpacks, and a node in its slot.
+
+mod nodes;
 
 ghost use mathlib.Core.Path.{_≡_};
 ghost use mathlib.Core.Bool.{not};

@@ -1,4 +1,4 @@
-//! Measures the proved listpack functions beside the plain ones, in one run.
+//! Measures the proved functions on listpacks and nodes beside the plain ones, in one run.
 //!
 //! `bench` prints times, `bench instructions` counts of executed instructions (it runs itself under
 //! valgrind). See docs/PERFORMANCE.md.
@@ -9,6 +9,8 @@ use std::time::{Duration, Instant};
 
 use bench::{plain, proved};
 use wallathi_model::rng::Rng;
+
+mod nodes;
 
 const ROOM: usize = 4_096;
 /// Each sample lasts about this long, so that the clock's own cost does not show.
@@ -44,6 +46,8 @@ type Run = Box<dyn FnMut(u64)>;
 /// One thing to measure, done by the proved code and by the plain one.
 struct Task {
     name: String,
+    /// How many bytes are read, where a speed says more than a time.
+    bytes: Option<usize>,
     proved: Run,
     plain: Run,
 }
@@ -75,6 +79,12 @@ fn mixed() -> Vec<u8> {
 }
 
 fn tasks() -> Vec<Task> {
+    let mut tasks = listpack_tasks();
+    tasks.extend(nodes::tasks());
+    tasks
+}
+
+fn listpack_tasks() -> Vec<Task> {
     let mut tasks = Vec::new();
     for (name, content) in &CONTENTS {
         let mut bytes = vec![0; ROOM];
@@ -91,6 +101,7 @@ fn tasks() -> Vec<Task> {
         let again = bytes.clone();
         tasks.push(Task {
             name: format!("read, {name}"),
+            bytes: Some(size),
             proved: Box::new(move |times| {
                 for _ in 0..times {
                     black_box(proved::check(black_box(&bytes)));
@@ -140,7 +151,7 @@ fn tasks() -> Vec<Task> {
             ),
             Content::Mixed => continue,
         };
-        tasks.push(Task { name: format!("write, {name}"), proved, plain });
+        tasks.push(Task { name: format!("write, {name}"), bytes: None, proved, plain });
     }
     tasks
 }
@@ -157,16 +168,23 @@ fn median(samples: &mut [f64]) -> f64 {
 }
 
 fn print_head(figure: &str) {
-    println!("{figure:34} {:>10} {:>12} {:>8}", "proved", "plain Rust", "ratio");
+    print!("{figure:34} {:>10} {:>12} {:>8}", "proved", "plain Rust", "ratio");
 }
 
 fn print_row(name: &str, proved: f64, plain: f64) {
-    println!("{name:34} {proved:10.0} {plain:12.0} {:8.2}", proved / plain);
+    print!("{name:34} {proved:10.0} {plain:12.0} {:8.2}", proved / plain);
+}
+
+/// Bytes in nanoseconds, as millions of bytes a second.
+fn print_speed(bytes: usize, proved: f64, plain: f64) {
+    let [proved, plain] = [proved, plain].map(|time| bytes as f64 / time * 1_000.0);
+    print!("{proved:10.0} {plain:10.0}");
 }
 
 /// Samples of the two alternate, so that what disturbs the machine disturbs both.
 fn time() {
     print_head("median time of a call, ns");
+    println!("  MB a second: proved, plain");
     for task in &mut tasks() {
         let once = timed(&mut task.plain, 100);
         let times = (SAMPLE.as_nanos() as f64 / once).max(1.0) as u64;
@@ -175,7 +193,12 @@ fn time() {
             proved.push(timed(&mut task.proved, times));
             plain.push(timed(&mut task.plain, times));
         }
-        print_row(&task.name, median(&mut proved), median(&mut plain));
+        let (proved, plain) = (median(&mut proved), median(&mut plain));
+        print_row(&task.name, proved, plain);
+        if let Some(bytes) = task.bytes {
+            print_speed(bytes, proved, plain);
+        }
+        println!();
     }
 }
 
@@ -197,10 +220,12 @@ fn instructions_of(task: usize, side: &str, times: u64) -> f64 {
 /// The difference of two runs is what the calls alone take.
 fn instructions() {
     print_head("instructions of a call");
+    println!();
     for (number, task) in tasks().iter().enumerate() {
         let [proved, plain] = ["proved", "plain"]
             .map(|side| (instructions_of(number, side, 110) - instructions_of(number, side, 10)) / 100.0);
         print_row(&task.name, proved, plain);
+        println!();
     }
 }
 

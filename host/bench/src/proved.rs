@@ -1,9 +1,38 @@
 //! The proved functions of the crate `bench`, as safe Rust.
 
+use wallathi_model::id::Id;
+
 extern "C" {
     fn wallathi_bench_check(bytes: *const u8, length: usize) -> u32;
     fn wallathi_bench_write_integers(out: *mut u8, length: usize, first: u64, step: u64) -> u64;
     fn wallathi_bench_write_texts(out: *mut u8, length: usize, text: *const u8, text_length: usize) -> u64;
+    fn wallathi_bench_judge(slot: *const u8, length: usize, key_ms: u64, key_seq: u64) -> u32;
+    fn wallathi_bench_find(
+        slot: *const u8,
+        length: usize,
+        key_ms: u64,
+        key_seq: u64,
+        ms: u64,
+        seq: u64,
+    ) -> u32;
+    fn wallathi_bench_append(
+        slot: *mut u8,
+        length: usize,
+        key_ms: u64,
+        key_seq: u64,
+        ms: u64,
+        seq: u64,
+        slip: *const u8,
+        slip_length: usize,
+    ) -> u32;
+    fn wallathi_bench_delete(
+        slot: *mut u8,
+        length: usize,
+        key_ms: u64,
+        key_seq: u64,
+        ms: u64,
+        seq: u64,
+    ) -> u32;
 }
 
 pub fn check(bytes: &[u8]) -> bool {
@@ -19,4 +48,40 @@ pub fn write_integers(out: &mut [u8], first: u64, step: u64) -> usize {
 pub fn write_texts(out: &mut [u8], text: &[u8]) -> usize {
     // SAFETY: as above; the borrow rules keep the two slices apart.
     unsafe { wallathi_bench_write_texts(out.as_mut_ptr(), out.len(), text.as_ptr(), text.len()) as usize }
+}
+
+/// Whether the slot holds a node with this key.
+pub fn judge(slot: &[u8], key: Id) -> bool {
+    // SAFETY: pointer and length are those of a slice, and the function only reads it.
+    unsafe { wallathi_bench_judge(slot.as_ptr(), slot.len(), key.ms, key.seq) == 1 }
+}
+
+/// Whether the message is live in a slot, which is judged first.
+pub fn find(slot: &[u8], key: Id, id: Id) -> bool {
+    // SAFETY: as above.
+    unsafe { wallathi_bench_find(slot.as_ptr(), slot.len(), key.ms, key.seq, id.ms, id.seq) == 1 }
+}
+
+/// Appends the message of a slip, if the node has less than 100 live ones and then at most 4,095 bytes.
+pub fn append(slot: &mut [u8], key: Id, id: Id, slip: &[u8]) -> bool {
+    // SAFETY: pointers and lengths are those of slices, of which the first is lent alone.
+    let answer = unsafe {
+        wallathi_bench_append(
+            slot.as_mut_ptr(),
+            slot.len(),
+            key.ms,
+            key.seq,
+            id.ms,
+            id.seq,
+            slip.as_ptr(),
+            slip.len(),
+        )
+    };
+    answer == 1
+}
+
+/// Deletes a message, unless it is not live or the last live one.
+pub fn delete(slot: &mut [u8], key: Id, id: Id) -> bool {
+    // SAFETY: pointer and length are those of a slice that is lent alone.
+    unsafe { wallathi_bench_delete(slot.as_mut_ptr(), slot.len(), key.ms, key.seq, id.ms, id.seq) == 1 }
 }
