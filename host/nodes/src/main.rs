@@ -22,6 +22,9 @@ use wallathi_model::slip;
 
 const SEED: u64 = 4_096;
 
+/// Which of the nodes that are judged are damaged: nodes of 50 to 4,073 bytes.
+const DAMAGED: [usize; 6] = [5, 7, 23, 29, 35, 48];
+
 struct Request {
     letter: u8,
     first: Id,
@@ -193,6 +196,11 @@ fn checksum(bytes: &[u8]) -> u32 {
     b * 65_536 + a
 }
 
+/// Every byte of the slot, changed in three ways.
+fn damage() -> Request {
+    Request::new(b'X', Id::LEAST, Id::LEAST, &[0x01, 0x80, 0xFF])
+}
+
 /// The requests that judge: nodes as they are, with bounds on their IDs, and damaged.
 fn judging(rng: &mut Rng) -> Vec<Request> {
     let mut requests = Vec::new();
@@ -203,8 +211,8 @@ fn judging(rng: &mut Rng) -> Vec<Request> {
         for (above, most) in [(Id::LEAST, Id::GREATEST), (Id::LEAST, last), (key, Id::GREATEST), (Id::LEAST, key)] {
             requests.push(Request::new(b'J', above, most, &[]));
         }
-        if number % 10 == 0 {
-            requests.push(Request::new(b'X', Id::LEAST, Id::LEAST, &[0x01, 0x80, 0xFF]));
+        if DAMAGED.contains(&number) {
+            requests.push(damage());
         }
         // Under another key, and the elements of another size.
         let other = node.key().following().unwrap_or(Id::LEAST);
@@ -281,6 +289,20 @@ fn list(rng: &mut Rng, length: usize, small: bool) -> Vec<Request> {
     requests
 }
 
+/// A node of which 130 messages are deleted, so that their count takes three bytes, damaged.
+fn many_deleted() -> Vec<Request> {
+    let slip = slip::write(&[(b"a".to_vec(), b"1".to_vec())]);
+    let add = |seq| Request::new(if seq == 1 { b'M' } else { b'A' }, Id::new(5, seq), Id::LEAST, &slip);
+    let oldest = |count| Request::new(b'O', Id::LEAST, Id::LEAST, &vec![0; count]);
+    let mut requests: Vec<Request> = (1..=100).map(add).collect();
+    requests.push(oldest(90));
+    requests.extend((101..=132).map(add));
+    requests.push(oldest(40));
+    requests.push(Request::new(b'J', Id::LEAST, Id::GREATEST, &[]));
+    requests.push(damage());
+    requests
+}
+
 fn changing(rng: &mut Rng) -> Vec<Request> {
     let long = slip::write(&vec![(b"a".to_vec(), vec![b'z'; 1_000]); 5]);
     let mut requests = vec![Request::new(b'M', Id::GREATEST, Id::LEAST, &long)];
@@ -291,6 +313,7 @@ fn changing(rng: &mut Rng) -> Vec<Request> {
     for _ in 0..4 {
         requests.extend(list(rng, 900, true));
     }
+    requests.extend(many_deleted());
     // The proved program takes at most 8,192 bytes.
     requests.retain(|request| request.bytes.len() <= 8_192);
     requests
@@ -352,7 +375,7 @@ mod tests {
             ("none", 30),
             ("elements", 300),
             ("bad", 100),
-            ("accepted", 6),
+            ("accepted", 7),
         ] {
             let count = lines.iter().filter(|line| line.starts_with(start)).count();
             assert!(count >= least, "{start}: {count}");
