@@ -39,8 +39,14 @@ impl Request {
 
     fn to_bytes(&self) -> Vec<u8> {
         let length = self.bytes.len() as u16;
-        [&[self.letter][..], &self.first.to_bytes(), &self.second.to_bytes(), &length.to_le_bytes(), &self.bytes]
-            .concat()
+        [
+            &[self.letter][..],
+            &self.first.to_bytes(),
+            &self.second.to_bytes(),
+            &length.to_le_bytes(),
+            &self.bytes,
+        ]
+        .concat()
     }
 }
 
@@ -208,7 +214,9 @@ fn judging(rng: &mut Rng) -> Vec<Request> {
         let node = generate::node(rng);
         requests.push(Request::new(b'S', node.key(), Id::LEAST, &node.to_bytes()));
         let (key, last) = (node.key(), node.greatest_id());
-        for (above, most) in [(Id::LEAST, Id::GREATEST), (Id::LEAST, last), (key, Id::GREATEST), (Id::LEAST, key)] {
+        for (above, most) in
+            [(Id::LEAST, Id::GREATEST), (Id::LEAST, last), (key, Id::GREATEST), (Id::LEAST, key)]
+        {
             requests.push(Request::new(b'J', above, most, &[]));
         }
         if DAMAGED.contains(&number) {
@@ -224,7 +232,8 @@ fn judging(rng: &mut Rng) -> Vec<Request> {
 
 /// Strings at the ends of the forms, and of the lengths that are allowed.
 fn boundary(rng: &mut Rng) -> Vec<u8> {
-    let numbers = [0, 127, 128, -1, -4_096, 4_095, 4_096, -4_097, 32_767, 32_768, -8_388_609, 2_147_483_648, i64::MIN];
+    let numbers =
+        [0, 127, 128, -1, -4_096, 4_095, 4_096, -4_097, 32_767, 32_768, -8_388_609, 2_147_483_648, i64::MIN];
     match rng.below(3) {
         0 => rng.pick(&numbers).to_string().into_bytes(),
         1 => b"007".to_vec(),
@@ -238,7 +247,9 @@ fn message(rng: &mut Rng, small: bool) -> Vec<u8> {
         0 => vec![(boundary(rng), boundary(rng)), (b"a".to_vec(), boundary(rng))],
         1 => vec![(b"b".to_vec(), boundary(rng))],
         2 => generate::message(rng),
-        _ => vec![(b"temp".to_vec(), rng.below(5_000).to_string().into_bytes()), (b"".to_vec(), rng.digits(5))],
+        _ => {
+            vec![(b"temp".to_vec(), rng.below(5_000).to_string().into_bytes()), (b"".to_vec(), rng.digits(5))]
+        }
     };
     let mut slip = slip::write(&pairs);
     match rng.below(40) {
@@ -269,7 +280,10 @@ fn list(rng: &mut Rng, length: usize, small: bool) -> Vec<Request> {
         let next = match rng.below(3) {
             0 => Id::new(last.ms, last.seq.wrapping_add(1 + rng.below(3))),
             1 => Id::new(last.ms.wrapping_add(1 + rng.below(1_000)), rng.below(3)),
-            _ => Id::new(last.ms.wrapping_add(1 + (rng.next() >> (10 + rng.below(50)))), rng.next() >> rng.below(64)),
+            _ => Id::new(
+                last.ms.wrapping_add(1 + (rng.next() >> (10 + rng.below(50)))),
+                rng.next() >> rng.below(64),
+            ),
         };
         let (id, first) = (near(rng, &ids), ids[rng.size_below(ids.len())]);
         requests.push(match rng.below(12) {
@@ -282,7 +296,9 @@ fn list(rng: &mut Rng, length: usize, small: bool) -> Vec<Request> {
             7 => Request::new(b'N', id, Id::LEAST, &[]),
             8 => Request::new(b'R', first, Id::new(0, rng.below(90)), &[]),
             9 => Request::new(b'R', id, Id::new(0, 8_192), &[]),
-            10 => Request::new(b'F', first, Id::LEAST, rng.pick(&["a", "b", "temp", "", "128", "x"]).as_bytes()),
+            10 => {
+                Request::new(b'F', first, Id::LEAST, rng.pick(&["a", "b", "temp", "", "128", "x"]).as_bytes())
+            }
             _ => Request::new(b'J', Id::LEAST, if rng.one_in(3) { id } else { Id::GREATEST }, &[]),
         });
     }
