@@ -305,17 +305,59 @@ fn list(rng: &mut Rng, length: usize, small: bool) -> Vec<Request> {
     requests
 }
 
-/// A node of which 130 messages are deleted, so that their count takes three bytes, damaged.
+fn add(seq: u64, value: &[u8]) -> Request {
+    Request::new(b'A', Id::new(5, seq), Id::LEAST, &slip::write(&[(b"a".to_vec(), value.to_vec())]))
+}
+
+/// A node of which 127 messages are deleted: their count has two bytes, as far as it can.
 fn many_deleted() -> Vec<Request> {
-    let slip = slip::write(&[(b"a".to_vec(), b"1".to_vec())]);
-    let add = |seq| Request::new(if seq == 1 { b'M' } else { b'A' }, Id::new(5, seq), Id::LEAST, &slip);
     let oldest = |count| Request::new(b'O', Id::LEAST, Id::LEAST, &vec![0; count]);
-    let mut requests: Vec<Request> = (1..=100).map(add).collect();
+    let mut requests: Vec<Request> = (1..=100).map(|seq| add(seq, b"1")).collect();
+    requests[0].letter = b'M';
     requests.push(oldest(90));
-    requests.extend((101..=132).map(add));
-    requests.push(oldest(40));
-    requests.push(Request::new(b'J', Id::LEAST, Id::GREATEST, &[]));
-    requests.push(damage());
+    requests.extend((101..=140).map(|seq| add(seq, b"1")));
+    requests.push(oldest(37));
+    requests
+}
+
+/// A message that is a byte too long for the node that the requests make, and one that fills it.
+fn filling(requests: &[Request], seq: u64) -> [Request; 2] {
+    let mut state = State::new();
+    for request in requests {
+        state.answer(request);
+    }
+    let node = node::read_slot(state.key, &state.slot).ok().expect("the requests make a node");
+    let size = |length| {
+        let after = node.after_add(Id::new(5, seq), &[(b"a".to_vec(), vec![b'y'; length])]);
+        after.map(|node| node.to_bytes().len())
+    };
+    let length = (0..1_000).find(|&length| size(length) == Some(SLOT_BYTES - 1)).expect("a length fills it");
+    [add(seq, &vec![b'y'; length + 1]), add(seq, &vec![b'y'; length])]
+}
+
+/// A delete gives the deleted count a third byte: in a node that is then damaged, and in a node of
+/// 4,095 bytes, which has 4,096 then.
+fn third_byte() -> Vec<Request> {
+    let delete = |seq| Request::new(b'D', Id::new(5, seq), Id::LEAST, &[]);
+    let judge = || Request::new(b'J', Id::LEAST, Id::GREATEST, &[]);
+    let mut requests = many_deleted();
+    requests.extend([judge(), delete(138), judge(), damage()]);
+    let mut full = many_deleted();
+    full.extend([add(141, &[b'y'; 1_000]), add(142, &[b'y'; 1_000])]);
+    let [long, fits] = filling(&full, 143);
+    full.extend([
+        long,
+        fits,
+        judge(),
+        delete(138),
+        judge(),
+        delete(143),
+        delete(143),
+        judge(),
+        add(144, b""),
+    ]);
+    full.push(Request::new(b'R', Id::new(5, 142), Id::new(0, 8_192), &[]));
+    requests.extend(full);
     requests
 }
 
@@ -329,7 +371,7 @@ fn changing(rng: &mut Rng) -> Vec<Request> {
     for _ in 0..4 {
         requests.extend(list(rng, 900, true));
     }
-    requests.extend(many_deleted());
+    requests.extend(third_byte());
     // The proved program takes at most 8,192 bytes.
     requests.retain(|request| request.bytes.len() <= 8_192);
     requests
@@ -382,6 +424,7 @@ mod tests {
             ("deleted 129", 1),
             ("last", 30),
             ("trimmed", 50),
+            ("deleted 128", 1),
             ("many", 5),
             ("slip", 150),
             ("short", 30),
