@@ -39,8 +39,14 @@ impl Request {
 
     fn to_bytes(&self) -> Vec<u8> {
         let length = self.bytes.len() as u16;
-        [&[self.letter][..], &self.first.to_bytes(), &self.second.to_bytes(), &length.to_le_bytes(), &self.bytes]
-            .concat()
+        [
+            &[self.letter][..],
+            &self.first.to_bytes(),
+            &self.second.to_bytes(),
+            &length.to_le_bytes(),
+            &self.bytes,
+        ]
+        .concat()
     }
 }
 
@@ -208,7 +214,9 @@ fn judging(rng: &mut Rng) -> Vec<Request> {
         let node = generate::node(rng);
         requests.push(Request::new(b'S', node.key(), Id::LEAST, &node.to_bytes()));
         let (key, last) = (node.key(), node.greatest_id());
-        for (above, most) in [(Id::LEAST, Id::GREATEST), (Id::LEAST, last), (key, Id::GREATEST), (Id::LEAST, key)] {
+        for (above, most) in
+            [(Id::LEAST, Id::GREATEST), (Id::LEAST, last), (key, Id::GREATEST), (Id::LEAST, key)]
+        {
             requests.push(Request::new(b'J', above, most, &[]));
         }
         if DAMAGED.contains(&number) {
@@ -224,7 +232,8 @@ fn judging(rng: &mut Rng) -> Vec<Request> {
 
 /// Strings at the ends of the forms, and of the lengths that are allowed.
 fn boundary(rng: &mut Rng) -> Vec<u8> {
-    let numbers = [0, 127, 128, -1, -4_096, 4_095, 4_096, -4_097, 32_767, 32_768, -8_388_609, 2_147_483_648, i64::MIN];
+    let numbers =
+        [0, 127, 128, -1, -4_096, 4_095, 4_096, -4_097, 32_767, 32_768, -8_388_609, 2_147_483_648, i64::MIN];
     match rng.below(3) {
         0 => rng.pick(&numbers).to_string().into_bytes(),
         1 => b"007".to_vec(),
@@ -238,7 +247,9 @@ fn message(rng: &mut Rng, small: bool) -> Vec<u8> {
         0 => vec![(boundary(rng), boundary(rng)), (b"a".to_vec(), boundary(rng))],
         1 => vec![(b"b".to_vec(), boundary(rng))],
         2 => generate::message(rng),
-        _ => vec![(b"temp".to_vec(), rng.below(5_000).to_string().into_bytes()), (b"".to_vec(), rng.digits(5))],
+        _ => {
+            vec![(b"temp".to_vec(), rng.below(5_000).to_string().into_bytes()), (b"".to_vec(), rng.digits(5))]
+        }
     };
     let mut slip = slip::write(&pairs);
     match rng.below(40) {
@@ -269,7 +280,10 @@ fn list(rng: &mut Rng, length: usize, small: bool) -> Vec<Request> {
         let next = match rng.below(3) {
             0 => Id::new(last.ms, last.seq.wrapping_add(1 + rng.below(3))),
             1 => Id::new(last.ms.wrapping_add(1 + rng.below(1_000)), rng.below(3)),
-            _ => Id::new(last.ms.wrapping_add(1 + (rng.next() >> (10 + rng.below(50)))), rng.next() >> rng.below(64)),
+            _ => Id::new(
+                last.ms.wrapping_add(1 + (rng.next() >> (10 + rng.below(50)))),
+                rng.next() >> rng.below(64),
+            ),
         };
         let (id, first) = (near(rng, &ids), ids[rng.size_below(ids.len())]);
         requests.push(match rng.below(12) {
@@ -282,24 +296,68 @@ fn list(rng: &mut Rng, length: usize, small: bool) -> Vec<Request> {
             7 => Request::new(b'N', id, Id::LEAST, &[]),
             8 => Request::new(b'R', first, Id::new(0, rng.below(90)), &[]),
             9 => Request::new(b'R', id, Id::new(0, 8_192), &[]),
-            10 => Request::new(b'F', first, Id::LEAST, rng.pick(&["a", "b", "temp", "", "128", "x"]).as_bytes()),
+            10 => {
+                Request::new(b'F', first, Id::LEAST, rng.pick(&["a", "b", "temp", "", "128", "x"]).as_bytes())
+            }
             _ => Request::new(b'J', Id::LEAST, if rng.one_in(3) { id } else { Id::GREATEST }, &[]),
         });
     }
     requests
 }
 
-/// A node of which 130 messages are deleted, so that their count takes three bytes, damaged.
+fn add(seq: u64, value: &[u8]) -> Request {
+    Request::new(b'A', Id::new(5, seq), Id::LEAST, &slip::write(&[(b"a".to_vec(), value.to_vec())]))
+}
+
+/// A node of which 127 messages are deleted: their count has two bytes, as far as it can.
 fn many_deleted() -> Vec<Request> {
-    let slip = slip::write(&[(b"a".to_vec(), b"1".to_vec())]);
-    let add = |seq| Request::new(if seq == 1 { b'M' } else { b'A' }, Id::new(5, seq), Id::LEAST, &slip);
     let oldest = |count| Request::new(b'O', Id::LEAST, Id::LEAST, &vec![0; count]);
-    let mut requests: Vec<Request> = (1..=100).map(add).collect();
+    let mut requests: Vec<Request> = (1..=100).map(|seq| add(seq, b"1")).collect();
+    requests[0].letter = b'M';
     requests.push(oldest(90));
-    requests.extend((101..=132).map(add));
-    requests.push(oldest(40));
-    requests.push(Request::new(b'J', Id::LEAST, Id::GREATEST, &[]));
-    requests.push(damage());
+    requests.extend((101..=140).map(|seq| add(seq, b"1")));
+    requests.push(oldest(37));
+    requests
+}
+
+/// A message that is a byte too long for the node that the requests make, and one that fills it.
+fn filling(requests: &[Request], seq: u64) -> [Request; 2] {
+    let mut state = State::new();
+    for request in requests {
+        state.answer(request);
+    }
+    let node = node::read_slot(state.key, &state.slot).ok().expect("the requests make a node");
+    let size = |length| {
+        let after = node.after_add(Id::new(5, seq), &[(b"a".to_vec(), vec![b'y'; length])]);
+        after.map(|node| node.to_bytes().len())
+    };
+    let length = (0..1_000).find(|&length| size(length) == Some(SLOT_BYTES - 1)).expect("a length fills it");
+    [add(seq, &vec![b'y'; length + 1]), add(seq, &vec![b'y'; length])]
+}
+
+/// A delete gives the deleted count a third byte: in a node that is then damaged, and in a node of
+/// 4,095 bytes, which has 4,096 then.
+fn third_byte() -> Vec<Request> {
+    let delete = |seq| Request::new(b'D', Id::new(5, seq), Id::LEAST, &[]);
+    let judge = || Request::new(b'J', Id::LEAST, Id::GREATEST, &[]);
+    let mut requests = many_deleted();
+    requests.extend([judge(), delete(138), judge(), damage()]);
+    let mut full = many_deleted();
+    full.extend([add(141, &[b'y'; 1_000]), add(142, &[b'y'; 1_000])]);
+    let [long, fits] = filling(&full, 143);
+    full.extend([
+        long,
+        fits,
+        judge(),
+        delete(138),
+        judge(),
+        delete(143),
+        delete(143),
+        judge(),
+        add(144, b""),
+    ]);
+    full.push(Request::new(b'R', Id::new(5, 142), Id::new(0, 8_192), &[]));
+    requests.extend(full);
     requests
 }
 
@@ -313,7 +371,7 @@ fn changing(rng: &mut Rng) -> Vec<Request> {
     for _ in 0..4 {
         requests.extend(list(rng, 900, true));
     }
-    requests.extend(many_deleted());
+    requests.extend(third_byte());
     // The proved program takes at most 8,192 bytes.
     requests.retain(|request| request.bytes.len() <= 8_192);
     requests
@@ -366,6 +424,7 @@ mod tests {
             ("deleted 129", 1),
             ("last", 30),
             ("trimmed", 50),
+            ("deleted 128", 1),
             ("many", 5),
             ("slip", 150),
             ("short", 30),
