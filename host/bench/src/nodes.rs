@@ -21,19 +21,19 @@ fn text(name: &str) -> Vec<u8> {
 
 /// A reading of a sensor: a small integer and a text.
 fn reading(turn: u64) -> Message {
-    let note = ["all quiet on this line", "the pump was restarted"][turn as usize % 2];
+    let note = ["all was quiet on this line 4", "the pump was restarted twice"][turn as usize % 2];
     vec![(text("temp"), text(&(turn % 60).to_string())), (text("note"), text(note))]
 }
 
 /// Many small integers.
 fn integers(turn: u64) -> Message {
-    (0..10).map(|field| (text(&format!("c{field}")), text(&(turn * 7 * field % 300).to_string()))).collect()
+    (0..12).map(|field| (text(&format!("c{field}")), text(&(turn * 7 * field % 300).to_string()))).collect()
 }
 
 /// Messages whose first field has one of five names.
 fn own_names(turn: u64) -> Message {
     let name = format!("sensor {}", turn % 5);
-    vec![(text(&name), text(&(turn % 60).to_string())), (text("note"), text("all quiet"))]
+    vec![(text(&name), text(&(turn % 60).to_string())), (text("note"), text("all was quiet"))]
 }
 
 /// One small integer.
@@ -81,7 +81,7 @@ impl Full {
 
 const NODES: [(&str, Make, u64); 4] = [
     ("same fields, integer and text", reading, 1_000),
-    ("same fields, ten integers", integers, 1_000),
+    ("same fields, 12 integers", integers, 1_000),
     ("own field names", own_names, 1_000),
     ("many deleted", short, 100),
 ];

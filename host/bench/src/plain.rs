@@ -1,5 +1,6 @@
 //! The strict listpack reader and writer in plain Rust, written for speed from document 01
-//! ("Listpack elements").
+//! ("Listpack elements"). What is called for each element is always inlined: the compiler, left to itself,
+//! calls it once it has several callers, and its answer then goes through memory.
 
 const HEADER_BYTES: usize = 6;
 const END: u8 = 0xFF;
@@ -13,7 +14,7 @@ pub enum Element<'a> {
 }
 
 /// The integer that a string is stored as.
-#[inline]
+#[inline(always)]
 pub fn integer(string: &[u8]) -> Option<i64> {
     let (negative, digits) = match string {
         [b'-', digits @ ..] => (true, digits),
@@ -41,7 +42,7 @@ pub fn integer(string: &[u8]) -> Option<i64> {
 }
 
 /// The element that starts the slice, and its size.
-#[inline]
+#[inline(always)]
 pub fn read_element(bytes: &[u8]) -> Option<(Element<'_>, usize)> {
     let &first = bytes.first()?;
     let (number, wide_enough, size) = match first {
@@ -90,7 +91,7 @@ pub fn read_element(bytes: &[u8]) -> Option<(Element<'_>, usize)> {
 }
 
 /// A text of `length` bytes after a head of `head` bytes.
-#[inline]
+#[inline(always)]
 fn text(bytes: &[u8], head: usize, length: usize) -> Option<(Element<'_>, usize)> {
     let body = head + length;
     let (content, back) = bytes.split_at_checked(body)?;
@@ -131,7 +132,7 @@ pub fn check(bytes: &[u8]) -> bool {
 }
 
 /// Writes an integer's element at the start of the slice, unless it is too small; the element's size.
-#[inline]
+#[inline(always)]
 pub fn write_integer(out: &mut [u8], number: i64) -> Option<usize> {
     if (0..=127).contains(&number) {
         out.get_mut(..2)?.copy_from_slice(&[number as u8, 1]);
@@ -163,7 +164,7 @@ pub fn write_integer(out: &mut [u8], number: i64) -> Option<usize> {
 }
 
 /// The same for a string.
-#[inline]
+#[inline(always)]
 pub fn write_string(out: &mut [u8], string: &[u8]) -> Option<usize> {
     if let Some(number) = integer(string) {
         return write_integer(out, number);

@@ -25,12 +25,15 @@ fn some_id(rng: &mut Rng, node: &Node) -> Id {
     }
 }
 
-/// One of the two changes the slot as the other does, to what the model says.
-fn same_change(slot: &[u8], expected: Option<Vec<u8>>, changes: [&dyn Fn(&mut [u8]) -> bool; 2]) {
+/// Changes a slot and answers whether it did.
+type Change<'a> = &'a dyn Fn(&mut [u8]) -> bool;
+
+/// Both leave what the model says, or the slot as it was.
+fn same_change(slot: &[u8], expected: Option<Vec<u8>>, changes: [Change; 2]) {
     for change in changes {
         let mut copy = slot.to_vec();
         assert_eq!(change(&mut copy), expected.is_some());
-        assert!(copy == *expected.as_deref().unwrap_or(slot));
+        assert_eq!(copy, expected.as_deref().unwrap_or(slot));
     }
 }
 
@@ -76,7 +79,7 @@ fn some_message(rng: &mut Rng, node: &Node) -> Message {
 #[test]
 fn nodes_are_accepted_and_changed() {
     let mut rng = Rng::new(41);
-    for _ in 0..600 {
+    for _ in 0..300 {
         let node = generate::node(&mut rng);
         let slot = node.to_slot();
         assert!(same_verdict(node.key(), &slot));
@@ -91,7 +94,7 @@ fn nodes_are_accepted_and_changed() {
     }
 }
 
-fn damage(rng: &mut Rng, slot: &mut Vec<u8>, size: usize) {
+fn damage(rng: &mut Rng, slot: &mut [u8], size: usize) {
     let at = rng.size_below(size);
     match rng.below(6) {
         0 => slot[at] = rng.byte(),
@@ -107,9 +110,9 @@ fn damage(rng: &mut Rng, slot: &mut Vec<u8>, size: usize) {
 fn damaged_nodes() {
     let mut rng = Rng::new(42);
     let mut refused = 0;
-    for _ in 0..1_000 {
+    for _ in 0..300 {
         let node = generate::node(&mut rng);
-        for _ in 0..20 {
+        for _ in 0..60 {
             let mut slot = node.to_slot();
             for _ in 0..1 + rng.below(2) {
                 damage(&mut rng, &mut slot, node.size());
@@ -127,7 +130,7 @@ fn damaged_nodes() {
             }
         }
     }
-    assert!((10_000..20_000).contains(&refused), "{refused}");
+    assert!((9_000..18_000).contains(&refused), "{refused}");
 }
 
 /// Every byte of some small nodes, with every value.
