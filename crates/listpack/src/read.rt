@@ -2,7 +2,7 @@
 
 ghost use mathlib.Core.Path.{_≡_};
 ghost use Prim.Native.Nat.{_≤_, _<_};
-ghost use lib.ListN.{length};
+ghost use lib.ListN.{length, getD};
 ghost use Rattle.octets.specs.Bytes.{leValue};
 ghost use Rattle.octets.specs.Place.{area};
 ghost use Rattle.octets.specs.Maybe.{isNone};
@@ -147,17 +147,11 @@ fn read_tagged(s: &[u8], b: u64) -> Element
     Element::Bad
 }
 
-// The element at the start of s, by its first byte.
-pub fn read_element(s: &[u8]) -> Element
+// An element whose first byte is 128 or above.
+fn read_longer(s: &[u8], b: u64) -> Element
+    requires { ⌜ (2 ≤ length (now s)) × (b ≡ getD (now s) 0 0) × (128 ≤ b) × (b < 256) ⌝ }
     ensures { λ r. ⌜ r ≡ readElement (now (s .entry)) ⌝ }
 {
-    if s.len() < 2 {
-        return Element::Bad;
-    }
-    let b = octets::wide(s[0]);
-    if b < 128 {
-        return as_integer(b, 1, integer_stands(s, b, 1));
-    }
     if b < 192 {
         let l = (b - 128) as usize;
         return as_text(1, l, text_stands(s, 1, l));
@@ -172,4 +166,18 @@ pub fn read_element(s: &[u8]) -> Element
         return as_text(2, l, text_stands(s, 2, l));
     }
     read_tagged(s, b)
+}
+
+// The element at the start of s, by its first byte. Small, so that the compiler puts it where it is called.
+pub fn read_element(s: &[u8]) -> Element
+    ensures { λ r. ⌜ r ≡ readElement (now (s .entry)) ⌝ }
+{
+    if s.len() < 2 {
+        return Element::Bad;
+    }
+    let b = octets::wide(s[0]);
+    if b < 128 {
+        return as_integer(b, 1, integer_stands(s, b, 1));
+    }
+    read_longer(s, b)
 }
