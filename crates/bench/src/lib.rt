@@ -1,14 +1,12 @@
-// What the benchmark under host/bench calls, exported to C: the reader and the writers of whole listpacks, and a node in its slot.
-
-mod nodes;
+// What the benchmark under host/bench calls of listpacks, exported to C: the reader and the writers of whole ones.
 
 ghost use mathlib.Core.Path.{_≡_};
 ghost use mathlib.Core.Bool.{not};
 ghost use Prim.Native.Nat.{_+_, _≤_};
 ghost use lib.ListN.{length};
+ghost use Rattle.octets.specs.Pick.{pick};
 ghost use Rattle.octets.specs.Maybe.{isNone};
 ghost use Rattle.listpack.specs.Read.{parseListpack};
-ghost use Rattle.bench.specs.Answer.{asNumber};
 
 // The most elements that a header can count.
 const MOST: u64 = 65535;
@@ -16,7 +14,7 @@ const MOST: u64 = 65535;
 // 1 where the whole slice is a listpack, and 0 where it is not.
 #[no_mangle]
 pub extern "C" fn wallathi_bench_check(s: &[u8]) -> u32
-    ensures { λ r. ⌜ r ≡ asNumber (not (isNone (parseListpack (now (s .entry))))) ⌝ }
+    ensures { λ r. ⌜ r ≡ pick (not (isNone (parseListpack (now (s .entry))))) 1 0 ⌝ }
 {
     if listpack::check(s) {
         return 1;

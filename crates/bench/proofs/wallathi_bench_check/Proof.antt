@@ -1,7 +1,9 @@
 -- `wallathi_bench_check` meets its contract: in each branch the test says what `check` answered. Assumes nothing.
 use mathlib.Core.Path.{sym, ap, _∙_}
 use borrow.Author.Needs.{needs}
-use Rattle.bench.specs.Answer.{asNumber}
+use Rattle.octets.specs.Pick.{pick}
+use Prim.Native.Nat.{ℕ}
+use mathlib.Core.Bool.{Bool}
 use Rattle.bench.proofs.wallathi_bench_check.Statement.{statement}
 use Rattle.bench.proofs.wallathi_bench_check.Tie as tie
 
@@ -9,10 +11,10 @@ check-requires : tie.Need-check-requires
 check-requires c κs = search needs
 
 returns : tie.Need-returns
-returns c = ap asNumber (sym (c .if1 .taken) ∙ c .before .check .ensures)
+returns c = ap (λ (t : Bool). pick {A = ℕ} t 1 0) (sym (c .if1 .taken) ∙ c .before .check .ensures)
 
 returns-2 : tie.Need-returns-2
-returns-2 c = ap asNumber (sym (c .if1 .left) ∙ c .before .check .ensures)
+returns-2 c = ap (λ (t : Bool). pick {A = ℕ} t 1 0) (sym (c .if1 .left) ∙ c .before .check .ensures)
 
 pub wallathi-bench-check-spec : {M : Type 1} → statement M
 wallathi-bench-check-spec = tie.close (tie.spec check-requires returns returns-2)

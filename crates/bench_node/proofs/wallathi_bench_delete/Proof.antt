@@ -4,10 +4,10 @@ use Prim.Native.Nat.{_≤_}
 use native.Mathlib.Omega.{arith}
 use borrow.Author.Needs.{needs}
 use Rattle.id.specs.Id.{idOf}
-use Rattle.bench.specs.Node.{liveOf}
-use Rattle.bench.proofs.Slots.{live-is, live-slot, deletes-few, deletes-is, deleted-is}
-use Rattle.bench.proofs.nodes.wallathi_bench_delete.Statement.{statement}
-use Rattle.bench.proofs.nodes.wallathi_bench_delete.Tie as tie
+use Rattle.bench_node.specs.Node.{liveOf}
+use Rattle.bench_node.proofs.Slots.{live-is, live-slot, deletes-few, deletes-is, deleted-is}
+use Rattle.bench_node.proofs.wallathi_bench_delete.Statement.{statement}
+use Rattle.bench_node.proofs.wallathi_bench_delete.Tie as tie
 
 enough : (c : tie.Else1) → let a = c .before .before .before .before .args in 2 ≤ liveOf (idOf (a .key-ms) (a .key-seq)) (a .slot .now)
 enough c = omega (arith, c .before .live-of .ensures)

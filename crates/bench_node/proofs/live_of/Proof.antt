@@ -1,9 +1,9 @@
 -- Assumes nothing.
 use mathlib.Core.Path.{sym, _∙_}
 use borrow.Author.Needs.{needs}
-use Rattle.bench.proofs.Slots.{live-by}
-use Rattle.bench.proofs.nodes.live_of.Statement.{statement}
-use Rattle.bench.proofs.nodes.live_of.Tie as tie
+use Rattle.bench_node.proofs.Slots.{live-by}
+use Rattle.bench_node.proofs.live_of.Statement.{statement}
+use Rattle.bench_node.proofs.live_of.Tie as tie
 
 pub live-of-spec : {M : Type 1} → statement M
 live-of-spec =

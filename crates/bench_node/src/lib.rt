@@ -2,8 +2,8 @@
 
 ghost use mathlib.Core.Path.{_≡_};
 ghost use Rattle.id.specs.Id.{idOf};
-ghost use Rattle.bench.specs.Answer.{asNumber};
-ghost use Rattle.bench.specs.Node.{liveOf, isSound, finds, appends, appended, deletes, deleted};
+ghost use Rattle.bench_node.specs.Answer.{asNumber};
+ghost use Rattle.bench_node.specs.Node.{liveOf, isSound, finds, appends, appended, deletes, deleted};
 use id::Id;
 use node::Judged;
 

@@ -6,10 +6,10 @@ use borrow.Author.Tests.{not-true, not-false}
 use denote.Ref.{now}
 use Rattle.id.specs.Id.{idOf}
 use Rattle.slip.specs.Answer.{isSlip}
-use Rattle.bench.specs.Node.{isSound}
-use Rattle.bench.proofs.Slots.{sound-slot, appends-bad, appends-other, appends-full, appends-is}
-use Rattle.bench.proofs.nodes.wallathi_bench_append.Statement.{statement}
-use Rattle.bench.proofs.nodes.wallathi_bench_append.Tie as tie
+use Rattle.bench_node.specs.Node.{isSound}
+use Rattle.bench_node.proofs.Slots.{sound-slot, appends-bad, appends-other, appends-full, appends-is}
+use Rattle.bench_node.proofs.wallathi_bench_append.Statement.{statement}
+use Rattle.bench_node.proofs.wallathi_bench_append.Tie as tie
 
 sound : (c : tie.Else1) → let a = c .before .before .before .before .before .args in isSound (idOf (a .key-ms) (a .key-seq)) (a .slot .now) ≡ true
 sound c = sym (c .before .is-sound .ensures) ∙ not-false _ (c .if1 .left)

@@ -1,9 +1,9 @@
 -- Assumes nothing.
 use mathlib.Core.Path.{sym, _∙_}
 use borrow.Author.Needs.{needs}
-use Rattle.bench.proofs.Slots.{sound-by}
-use Rattle.bench.proofs.nodes.is_sound.Statement.{statement}
-use Rattle.bench.proofs.nodes.is_sound.Tie as tie
+use Rattle.bench_node.proofs.Slots.{sound-by}
+use Rattle.bench_node.proofs.is_sound.Statement.{statement}
+use Rattle.bench_node.proofs.is_sound.Tie as tie
 
 pub is-sound-spec : {M : Type 1} → statement M
 is-sound-spec =

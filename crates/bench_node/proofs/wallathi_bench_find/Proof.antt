@@ -2,9 +2,9 @@
 use mathlib.Core.Path.{sym, _∙_}
 use borrow.Author.Needs.{needs}
 use borrow.Author.Tests.{not-true, not-false}
-use Rattle.bench.proofs.Slots.{live-is, sound-slot, finds-not, finds-is}
-use Rattle.bench.proofs.nodes.wallathi_bench_find.Statement.{statement}
-use Rattle.bench.proofs.nodes.wallathi_bench_find.Tie as tie
+use Rattle.bench_node.proofs.Slots.{live-is, sound-slot, finds-not, finds-is}
+use Rattle.bench_node.proofs.wallathi_bench_find.Statement.{statement}
+use Rattle.bench_node.proofs.wallathi_bench_find.Tie as tie
 
 pub wallathi-bench-find-spec : {M : Type 1} → statement M
 wallathi-bench-find-spec =

@@ -19,8 +19,8 @@ use Rattle.node.specs.declared.judging.Judged.{Judged}
 use Rattle.node.specs.declared.judging.Judged.the-variants.{Sound, Bad}
 use Rattle.node.proofs.Laws.{judged-sound}
 use Rattle.node_write.specs.Answer.{messageIn}
-use Rattle.bench.specs.Answer.{asNumber}
-use Rattle.bench.specs.Node.{liveBy, soundBy, liveOf, isSound, isLive, finds, appends, appended, deletes, deleted}
+use Rattle.bench_node.specs.Answer.{asNumber}
+use Rattle.bench_node.specs.Node.{liveBy, soundBy, liveOf, isSound, isLive, finds, appends, appended, deletes, deleted}
 
 module _ (key : Id) (slot : List ℕ) where
   pub sound-by : (j : Judged) → j ≡ judgeOf key least greatest slot → soundBy j ≡ isSound key slot
