@@ -16,7 +16,7 @@ use Rattle.radix.proofs.Sorted.{before-less, before-equal, before-nil, before-u
 use Rattle.radix.proofs.Labels.{is-false, starts-split, starts-append, before-keep, after-all}
 use Rattle.radix.proofs.Sides.{before-self, before-trans}
 
-before-once : (a b : List ℕ) → comesBefore a b ≡ true → comesBefore b a ≡ false
+pub before-once : (a b : List ℕ) → comesBefore a b ≡ true → comesBefore b a ≡ false
 before-once a b h = is-false (comesBefore b a) (λ g. true≢false (sym (before-trans a b a h g) ∙ before-self a))
 
 -- the label comes before the key, which does not start with it

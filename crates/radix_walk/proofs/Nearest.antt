@@ -12,7 +12,8 @@ use Rattle.octets.proofs.Laws.{same-true, same-refl}
 use Rattle.radix.specs.Entries.{Entry, comesBefore, allAbove, rising, lookup, firstFrom, lastUpTo}
 use Rattle.radix.proofs.Keys.{Keys}
 use Rattle.radix.proofs.Sorted.{rising-tail}
-use Rattle.radix.proofs.Sides.{Sides, below, equal, above, sides, before-self, before-apart, same-swap}
+use Rattle.radix.proofs.Sides.{below, above, before-self, before-apart, same-swap}
+use Rattle.radix_walk.proofs.Beside.{before-once}
 use Rattle.radix.proofs.Maps.{lookup-same, lookup-other, above-keys}
 
 -- what holds of every key holds of one that is found
@@ -24,14 +25,6 @@ keys-held P j w (x ∷ es) h e = go (same j (x .key)) refl (keys-held P j w es (
     go : (t : Bool) → same j (x .key) ≡ t → (lookup j es ≡ some w → P j) → P j
     go true n ih = subst P (sym (same-true j (x .key) n)) (h .0)
     go false n ih = ih (sym (lookup-other j x es n) ∙ e)
-
-before-not : (a b : List ℕ) → comesBefore a b ≡ true → comesBefore b a ≡ false
-before-not a b h = go (sides a b)
-  where
-    go : Sides a b → comesBefore b a ≡ false
-    go (below p q n) = q
-    go (equal u p q n) = q
-    go (above p q n) = absurd (true≢false (sym h ∙ p))
 
 -- a key that is found stands first, or later
 found-cases : {C : Type 0} (j : List ℕ) (w : ℕ) (x : Entry) (es : List Entry) → lookup j (x ∷ es) ≡ some w → (j ≡ x .key → C) → (lookup j es ≡ some w → C) → C
@@ -81,7 +74,7 @@ first-at k e (x ∷ es) r h = go (comesBefore (x .key) k) refl (first-at k e es 
         (record {
           held = first-held x es;
           from = n;
-          least = λ j w l q. found-cases j w x es l (λ u. ap (λ (z : List ℕ). comesBefore z (x .key)) u ∙ before-self (x .key)) (λ l. before-not (x .key) j (later-after j w x es r l));
+          least = λ j w l q. found-cases j w x es l (λ u. ap (λ (z : List ℕ). comesBefore z (x .key)) u ∙ before-self (x .key)) (λ l. before-once (x .key) j (later-after j w x es r l));
         })
 
 first-all : (k : List ℕ) (es : List Entry) → firstFrom k es ≡ none → Keys (λ (x : List ℕ). comesBefore x k ≡ true) es
@@ -143,7 +136,7 @@ last-at k e (x ∷ es) r h = go (comesBefore k (x .key)) refl (lastUpTo k es) re
         record {
           held = later-held x e es r (f .held);
           upTo = f .upTo;
-          greatest = λ j w l q. found-cases j w x es l (λ u. ap (comesBefore (e .key)) u ∙ before-not (x .key) (e .key) (later-after (e .key) (e .value) x es r (f .held))) (λ l. f .greatest j w l q);
+          greatest = λ j w l q. found-cases j w x es l (λ u. ap (comesBefore (e .key)) u ∙ before-once (x .key) (e .key) (later-after (e .key) (e .value) x es r (f .held))) (λ l. f .greatest j w l q);
         }
 
 pub none-last : (k : List ℕ) (es : List Entry) → rising es ≡ true → ((j : List ℕ) (w : ℕ) → lookup j es ≡ some w → comesBefore k j ≡ true) → lastUpTo k es ≡ none
