@@ -16,6 +16,23 @@ pub part-area : (at n : ℕ) (s : List ℕ) → take n (drop at s) ≡ area at n
 unfolding area
 part-area at n s = refl
 
+-- the same with its length as written there; and one that is lent to its end, `&s[at..]`
+pub part-is : (at n : ℕ) (s : List ℕ) → take (at + n - at) (drop at s) ≡ area at n s
+part-is at n s =
+    let e : at + n - at ≡ n = omega arith in
+    ap (λ (k : ℕ). take k (drop at s)) e ∙ part-area at n s
+
+pub part-rest : (s : List ℕ) (at : ℕ) → take (length s - at) (drop at s) ≡ drop at s
+part-rest s at = take-all (length s - at) (drop at s) (omega (arith, length-drop at s))
+
+pub area-drop : (at i n : ℕ) (s : List ℕ) → area i n (drop at s) ≡ area (at + i) n s
+unfolding area
+area-drop at i n s = ap (take n) (drop-drop i at s)
+
+-- the first byte of what is left, with the code's + 1
+pub cut : (s : List ℕ) (i : ℕ) → i < length s → drop i s ≡ getD s i 0 ∷ drop (i + 1) s
+cut s i h = rw (add-one i, drop-cons s i 0 h)
+
 -- an area is cut out in either order
 pub area-cut : (at n : ℕ) (s : List ℕ) → area at n s ≡ drop at (take (at + n) s)
 unfolding area

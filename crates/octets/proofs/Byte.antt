@@ -1,9 +1,14 @@
 -- Lists of bytes: what is made of bytes is bytes. Assumes nothing.
+use mathlib.Core.Path.{_≡_, refl}
+use mathlib.Core.Bool.{Bool, true, false, _&&_}
 use mathlib.Core.List.{List, [], _∷_, _++_}
 use Prim.Native.Nat.{ℕ, zero, suc, _+_, _-_, _/_, _<_, max}
 use native.Mathlib.Omega.{arith}
+use lib.Dec.{ltb}
 use lib.ListN.{length, getD, take, drop, set}
+use lib.Pow.{areBytes}
 use lib.Seq.{getD-drop}
+use borrow.Author.Tests.{lt-ltb, ltb-true}
 use Rattle.octets.specs.Bytes.{Bytes, le, be, zeros}
 use Rattle.octets.specs.Place.{area, put, spliced, splicedEnd}
 
@@ -70,3 +75,16 @@ pub bytes-be : (w v : ℕ) → Bytes (be w v)
 unfolding be
 bytes-be zero v = bytes-nil
 bytes-be (suc w) v = bytes-append (bytes-be w (v / 256)) (bytes-cons (omega arith) bytes-nil)
+
+-- the test on bytes
+and-true : (a b : Bool) → (a && b) ≡ true → (a ≡ true) × (b ≡ true)
+and-true true b e = (refl, e)
+and-true false b e = absurd (let z : _≡_ {A = ℕ} 0 1 = cc in omega arith)
+
+pub are-bytes : (l : List ℕ) → Bytes l → areBytes l ≡ true
+are-bytes [] h = refl
+are-bytes (x ∷ l) h = rw (lt-ltb x 256 (bytes-head h)) (are-bytes l (bytes-tail h))
+
+pub bytes-are : (l : List ℕ) → areBytes l ≡ true → Bytes l
+bytes-are [] e = bytes-nil
+bytes-are (x ∷ l) e = let p = and-true (ltb x 256) (areBytes l) e in bytes-cons (ltb-true x 256 (p .0)) (bytes-are l (p .1))

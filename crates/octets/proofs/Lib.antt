@@ -1,6 +1,7 @@
 -- Laws is what callers cite; the others are its topics.
 pub mod Laws
 pub mod Picks
+pub mod Stages
 pub mod Digits
 pub mod Byte
 pub mod Put

@@ -8,7 +8,7 @@ use lib.Dec.{ltb}
 use borrow.Author.Tests.{lt-ltb, le-ltb, ltb-true, ltb-false}
 use Rattle.octets.specs.Pick.{pick}
 use Rattle.octets.specs.Bytes.{be}
-use Rattle.octets.specs.Compare.{orderOf}
+use Rattle.octets.specs.Compare.{orderOf, isLess, isEqual}
 use Rattle.octets.specs.declared.Order.{Order}
 use Rattle.octets.specs.declared.Order.the-variants.{Less, Equal, Greater}
 use Rattle.octets.proofs.Digits.{pow-byte}
@@ -22,6 +22,16 @@ mirror Greater = Less
 -- the order of two numbers, and of what follows where they are equal
 abbrev pub first : ℕ → ℕ → Order → Order
 first x y o = pick (ltb x y) Less (pick (ltb y x) Greater o)
+
+pub is-less : (o : Order) → isLess o ≡ true → o ≡ Less
+is-less Less e = refl
+is-less Equal e = absurd (let z : _≡_ {A = ℕ} 0 1 = cc in omega arith)
+is-less Greater e = absurd (let z : _≡_ {A = ℕ} 0 1 = cc in omega arith)
+
+pub is-equal : (o : Order) → isEqual o ≡ true → o ≡ Equal
+is-equal Less e = absurd (let z : _≡_ {A = ℕ} 0 1 = cc in omega arith)
+is-equal Equal e = refl
+is-equal Greater e = absurd (let z : _≡_ {A = ℕ} 0 1 = cc in omega arith)
 
 module _ (x y : ℕ) (o : Order) where
   pub first-less : x < y → first x y o ≡ Less

@@ -6,7 +6,8 @@ use native.Mathlib.Nat.{add-assoc, add-zero, zero-add, suc-add}
 use native.Mathlib.Numerals.{add-one}
 use native.Mathlib.Omega.{arith}
 use lib.ListN.{length, take, drop, set, getD, List·getD-append, length-append, length-take, length-drop, take-append-drop}
-use lib.Seq.{take-at, drop-at, take-append-le, drop-append-le, take-append-add, take-take, drop-drop, set-split, length-take-le, take-nil, drop-length, getD-append-add, getD-take, getD-drop}
+use lib.Seq.{take-at, drop-at, take-append-le, drop-append-le, drop-append-add, take-append-add, take-take, drop-drop, set-split, length-take-le, take-nil, drop-length, getD-append-add, getD-take, getD-drop}
+use Rattle.octets.specs.Bytes.{zeros}
 use Rattle.octets.specs.Place.{put}
 
 pub drop-take : (m n : ℕ) (l : List ℕ) → drop m (take (m + n) l) ≡ take n (drop m l)
@@ -143,3 +144,19 @@ put-last s at bs b h =
     sym (put-append s at bs (b ∷ []) (omega arith))
     ∙ put-swap s at bs (at + length bs) (b ∷ []) (omega arith) (omega arith)
     ∙ ap (λ (l : List ℕ). put l at bs) (sym (set-put s (at + length bs) b h))
+
+pub drop-zeros : (m n : ℕ) → drop m (zeros n) ≡ zeros (n - m)
+drop-zeros zero n = let e : n ≡ n - 0 = omega arith in ap zeros e
+drop-zeros (suc m) zero = let e : 0 ≡ 0 - suc m = omega arith in ap zeros e
+drop-zeros (suc m) (suc n) = let e : n - m ≡ suc n - suc m = omega arith in drop-zeros m n ∙ ap zeros e
+
+-- after what stands before
+pub put-at : (x t e : List ℕ) (at : ℕ) → length x ≡ at → put (x ++ t) at e ≡ x ++ (e ++ drop (length e) t)
+unfolding put
+put-at x t e at h =
+    let q : at + length e ≡ length x + length e = omega arith in
+    ap₂ (λ (a z : List ℕ). a ++ (e ++ z)) (take-at x t at h) (ap (λ (k : ℕ). drop k (x ++ t)) q ∙ drop-append-add x t (length e))
+
+-- bytes in the middle give way to as many others
+pub put-middle : (a b c d : List ℕ) (at : ℕ) → length a ≡ at → length d ≡ length b → put (a ++ (b ++ c)) at d ≡ a ++ (d ++ c)
+put-middle a b c d at h k = put-at a (b ++ c) d at h ∙ ap (λ (z : List ℕ). a ++ (d ++ z)) (drop-at b c (length d) (sym k))

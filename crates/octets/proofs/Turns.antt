@@ -1,27 +1,26 @@
 -- What a loop has left to do, a turn later. Assumes nothing.
 use mathlib.Core.Path.{_≡_, sym, ap, ap₂, _∙_}
-use mathlib.Core.Bool.{true, false}
+use mathlib.Core.Bool.{Bool, true, false}
 use mathlib.Core.List.{List, [], _∷_, _++_}
 use Prim.Native.Nat.{ℕ, suc, _+_, _-_, _*_, _/_, _%_, _^_, _≤_, _<_}
 use native.Mathlib.Nat.{add-assoc}
 use native.Mathlib.Numerals.{add-one}
 use native.Mathlib.Omega.{arith}
+use lib.Dec.{eqb}
 use lib.ListN.{length, drop, getD, set, drop-of-length-le}
 use lib.Pow.{pow-mono}
 use lib.Seq.{drop-cons}
 use borrow.Author.Tests.{eq-eqb, ne-eqb}
+use Rattle.octets.specs.Pick.{both}
 use Rattle.octets.specs.Bytes.{le, leValue, be, beFrom, beValue, zeros}
 use Rattle.octets.specs.Place.{area, put}
 use Rattle.octets.specs.Compare.{allZero, same, orderOf}
 use Rattle.octets.specs.declared.Order.the-variants.{Less, Equal, Greater}
+use Rattle.octets.proofs.Tested.{both-assoc}
 use Rattle.octets.proofs.Digits.{pow-byte}
 use Rattle.octets.proofs.Ordered.{first-less, first-greater, first-equal}
 use Rattle.octets.proofs.Put.{put-first, put-last, put-none}
-use Rattle.octets.proofs.Areas.{area-first, area-last, area-none, area-set-before, area-set-after, length-area}
-
--- with the code's + 1
-pub cut : (s : List ℕ) (i : ℕ) → i < length s → drop i s ≡ getD s i 0 ∷ drop (i + 1) s
-cut s i h = rw (add-one i, drop-cons s i 0 h)
+use Rattle.octets.proofs.Areas.{cut, area-first, area-last, area-none, area-set-before, area-set-after, length-area}
 
 -- numbers: 8 bytes fit, and one byte more is 8 bits more
 pub fits : (i v : ℕ) → i < 8 → v < 2 ^ (8 * i) → v < 2 ^ 56
@@ -189,6 +188,15 @@ module _ (s : List ℕ) (i : ℕ) where
   pub all-end : length s ≤ i → allZero (drop i s) ≡ true
   unfolding allZero
   all-end h = ap allZero (drop-of-length-le s h)
+
+  -- the greatest so far is g, and then h
+  pub all-greatest : (g h : ℕ) → i < length s → eqb h 0 ≡ both (eqb g 0) (eqb (getD s i 0) 0)
+      → both (eqb g 0) (allZero (drop i s)) ≡ both (eqb h 0) (allZero (drop (i + 1) s))
+  unfolding allZero
+  all-greatest g h k e =
+      ap (λ (l : List ℕ). both (eqb g 0) (allZero l)) (cut s i k)
+      ∙ both-assoc (eqb g 0) (eqb (getD s i 0) 0) (allZero (drop (i + 1) s))
+      ∙ ap (λ (t : Bool). both t (allZero (drop (i + 1) s))) (sym e)
 
 module _ (a b : List ℕ) (i : ℕ) where
   pub same-next : i < length a → i < length b → getD a i 0 ≡ getD b i 0 → same (drop i a) (drop i b) ≡ same (drop (i + 1) a) (drop (i + 1) b)

@@ -30,6 +30,10 @@ isLess Less = true
 isLess Equal = false
 isLess Greater = false
 
+-- the first comes before the second
+abbrev pub comesBefore : List ℕ → List ℕ → Bool
+comesBefore a b = isLess (orderOf a b)
+
 abbrev pub isEqual : Order → Bool
 isEqual Less = false
 isEqual Equal = true

@@ -9,6 +9,7 @@ mod number;
 mod place;
 
 pub use comparison::all_zero_from;
+pub use comparison::comes_before;
 pub use comparison::compare;
 pub use comparison::equal;
 pub use number::read_be;

@@ -4,7 +4,8 @@ use Prim.Native.Nat.{ℕ, _+_, _-_}
 use native.Mathlib.Omega.{arith}
 use lib.ListN.{length, drop, getD, length-set, drop-of-length-le}
 use Rattle.octets.specs.Place.{put}
-use Rattle.octets.proofs.Turns.{cut, stored-first, stored-all}
+use Rattle.octets.proofs.Areas.{cut}
+use Rattle.octets.proofs.Turns.{stored-first, stored-all}
 use Rattle.octets.proofs.place.copy_in.Statement.{statement}
 use Rattle.octets.proofs.place.copy_in.Tie as tie
 
