@@ -11,13 +11,12 @@ use Rattle.radix.specs.Entries as Index
 use Rattle.index.specs.Operation as Indexed
 use Rattle.node.specs.Message.{Entry, live, Pair, pair}
 use Rattle.groups.specs.Group.{Group, Pending}
-use Rattle.stream.specs.Ledger.{Ledger}
+use Rattle.stream.specs.Ledger.{Ledger, emptyLedger, withMessages, withLast, withGroups}
 use Rattle.stream.specs.Command as Command
 use Rattle.snapshot.specs.Command.{Command, onStream, save, load, answersAll}
 use Rattle.examples.specs.Case.{Case, string, listpack, node, snapshot, bytesOf, readIn, Row, row, message}
 use Rattle.node.specs.Message.{areStrings, arePairs}
 use Rattle.slip.specs.Slip.{slipPairs, slip, cutString, parsePairs, parseSlip}
-use Rattle.stream.specs.LedgerStep.{withoutMessage}
 use Rattle.octets.specs.Bytes.{le, leValue, be, beFrom, beValue}
 use Rattle.octets.specs.Compare.{allZero, same, orderOf}
 use Rattle.octets.specs.Place.{area, put, spliced, takeBytes}
@@ -45,7 +44,7 @@ use Rattle.groups.specs.Step as Groups
 use Rattle.stream.specs.Cut as Cut
 use Rattle.stream.specs.Image.{nodeOf, nodesOf, freeZero, imageFrom}
 use Rattle.stream.specs.Ledger.{messagesAbove, isLedger}
-use Rattle.stream.specs.LedgerStep.{onSetUp, addAs, clockId, onTrim, onCreate, firstAfter, drops}
+use Rattle.stream.specs.LedgerStep.{onSetUp, addAs, clockId, onTrim, onCreate, firstAfter}
 use Rattle.groups.specs.Answer.{lacksConsumer}
 use Rattle.stream.specs.Run.{run, answers}
 use Rattle.stream.specs.Step.{step}
@@ -91,7 +90,7 @@ group =
     }
 
 abbrev ledger : Ledger
-ledger = record { messages = message 5 0 a one ∷ []; last = idOf 5 0; groups = group ∷ [] }
+ledger = withGroups (withLast (withMessages emptyLedger (message 5 0 a one ∷ [])) (idOf 5 0)) (group ∷ [])
 
 pub table : List Row
 table =
@@ -135,34 +134,34 @@ asks =
     ∷ asked (Command.add (idOf 6 0) (0 ∷ [])) (Command.refused 3)
     ∷ asked (Command.addByClock 5 (slipOf b [])) (Command.given (idOf 5 1))
     ∷ asked (Command.addByClock 7 (slipOf a (replicate 1000 120))) (Command.given (idOf 7 0))
-    ∷ asked (Command.next (idOf 5 1)) (Command.given (idOf 5 1))
-    ∷ asked (Command.next (idOf 8 0)) Command.nothing
-    ∷ asked (Command.read (idOf 5 0) 100) (Command.written (slipOf a one))
-    ∷ asked (Command.read (idOf 5 0) 6) (Command.refused 8)
-    ∷ asked (Command.read (idOf 5 2) 6) (Command.refused 14)
-    ∷ asked (Command.field (idOf 5 1) b 0) (Command.written [])
-    ∷ asked (Command.field (idOf 5 1) a 0) Command.absent
-    ∷ asked (Command.groupRead g c 7) (Command.refused 9)
+    ∷ asked (Command.asks (Command.next (idOf 5 1))) (Command.given (idOf 5 1))
+    ∷ asked (Command.asks (Command.next (idOf 8 0))) Command.nothing
+    ∷ asked (Command.asks (Command.read (idOf 5 0) 100)) (Command.written (slipOf a one))
+    ∷ asked (Command.asks (Command.read (idOf 5 0) 6)) (Command.refused 8)
+    ∷ asked (Command.asks (Command.read (idOf 5 2) 6)) (Command.refused 14)
+    ∷ asked (Command.asks (Command.field (idOf 5 1) b 0)) (Command.written [])
+    ∷ asked (Command.asks (Command.field (idOf 5 1) a 0)) Command.absent
+    ∷ asked (Command.inGroup g (Command.groupRead c 7)) (Command.refused 9)
     ∷ asked (Command.createGroup g least) Command.done
     ∷ asked (Command.createGroup g least) (Command.refused 10)
     ∷ asked (Command.createGroup [] least) (Command.refused 3)
-    ∷ asked (Command.groupRead g c 7) (Command.given (idOf 5 0))
-    ∷ asked (Command.claim g d 3 (idOf 5 0) 9) Command.notMoved
-    ∷ asked (Command.claim g d 2 (idOf 5 0) 9) Command.moved
+    ∷ asked (Command.inGroup g (Command.groupRead c 7)) (Command.given (idOf 5 0))
+    ∷ asked (Command.inGroup g (Command.claim d 3 (idOf 5 0) 9)) Command.notMoved
+    ∷ asked (Command.inGroup g (Command.claim d 2 (idOf 5 0) 9)) Command.moved
     ∷ asked (Command.delete (idOf 5 0)) (Command.counted 1)
     ∷ asked (Command.delete (idOf 5 0)) (Command.counted 0)
-    ∷ asked (Command.nextPending g d least) (Command.entry moved false)
-    ∷ asked (Command.nextPending g c least) Command.nothing
-    ∷ asked (Command.acknowledge g (idOf 5 1)) (Command.counted 0)
-    ∷ asked (Command.dropConsumer g d) (Command.counted 1)
+    ∷ asked (Command.inGroup g (Command.nextPending d least)) (Command.entry moved false)
+    ∷ asked (Command.inGroup g (Command.nextPending c least)) Command.nothing
+    ∷ asked (Command.inGroup g (Command.acknowledge (idOf 5 1))) (Command.counted 0)
+    ∷ asked (Command.inGroup g (Command.dropConsumer d)) (Command.counted 1)
     ∷ asked (Command.destroyGroup g) Command.done
     ∷ asked (Command.trim 1) (Command.counted 1)
     ∷ asked (Command.trim 0) (Command.counted 1)
-    ∷ record { command = save 28; answer = Command.written (snapshotOf (record { messages = []; last = idOf 7 0; groups = [] })) }
+    ∷ record { command = save 28; answer = Command.written (snapshotOf (withLast emptyLedger (idOf 7 0))) }
     ∷ record { command = save 27; answer = Command.refused 8 }
     ∷ record { command = load (1 ∷ []); answer = Command.refused 16 }
     ∷ record { command = load (snapshotOf ledger); answer = Command.done }
-    ∷ asked (Command.next least) (Command.given (idOf 5 0))
+    ∷ asked (Command.asks (Command.next least)) (Command.given (idOf 5 0))
     ∷ []
 
 -- n pairs of a with a long value
@@ -177,16 +176,11 @@ abbrev creates : ℕ → Asked
 creates n = asked (Command.createGroup (names n) least) Command.done
 
 abbrev claims : ℕ → Asked
-claims n = asked (Command.claim (names 1) (names n) 0 (idOf 1 0) 0) Command.moved
+claims n = asked (Command.inGroup (names 1) (Command.claim (names n) 0 (idOf 1 0) 0)) Command.moved
 
 -- two nodes of a message each
 abbrev two : Ledger
-two =
-    record {
-      messages = record { id = idOf 1 0; pairs = wide 3 } ∷ record { id = idOf 2 0; pairs = wide 3 } ∷ [];
-      last = idOf 2 0;
-      groups = [];
-    }
+two = withLast (withMessages emptyLedger (record { id = idOf 1 0; pairs = wide 3 } ∷ record { id = idOf 2 0; pairs = wide 3 } ∷ [])) (idOf 2 0)
 
 -- refusals, on a store of one slot; and what set up answers where there is none
 pub refusals : List Asked
@@ -201,10 +195,10 @@ refusals =
     ∷ (map creates (1 ∷ 2 ∷ 3 ∷ 4 ∷ 5 ∷ 6 ∷ 7 ∷ 8 ∷ [])
     ++ (asked (Command.createGroup (names 9) least) (Command.refused 11)
     ∷ asked (Command.createGroup (names 8) least) (Command.refused 10)
-    ∷ asked (Command.groupRead (names 1) (names 1) 0) (Command.given (idOf 1 0))
+    ∷ asked (Command.inGroup (names 1) (Command.groupRead (names 1) 0)) (Command.given (idOf 1 0))
     ∷ (map claims (2 ∷ 3 ∷ 4 ∷ 5 ∷ 6 ∷ 7 ∷ 8 ∷ 9 ∷ 10 ∷ 11 ∷ 12 ∷ 13 ∷ 14 ∷ 15 ∷ 16 ∷ 1 ∷ [])
-    ++ (asked (Command.claim (names 1) (names 17) 0 (idOf 1 0) 0) (Command.refused 12)
-    ∷ asked (Command.groupRead (names 1) (names 17) 0) (Command.refused 12)
+    ++ (asked (Command.inGroup (names 1) (Command.claim (names 17) 0 (idOf 1 0) 0)) (Command.refused 12)
+    ∷ asked (Command.inGroup (names 1) (Command.groupRead (names 17) 0)) (Command.refused 12)
     ∷ asked (Command.add greatest (slipOf a one)) (Command.given greatest)
     ∷ asked (Command.addByClock (2 ^ 64 - 1) (slipOf a one)) (Command.refused 5)
     ∷ record { command = load (snapshotOf two); answer = Command.refused 17 }
@@ -221,7 +215,7 @@ pub record Computed : Type 0 where
   pub area8 : parseArea (idOf 5 0) (areaBytes (group ∷ [])) ≡ some (group ∷ [])
   -- a store of two slots and a tail: the second slot holds the node
   pub image : imageFrom (zeros 4096 ++ (slotOf second ++ (9 ∷ []))) (idOf 6 0) (Index.entry (idBytes (idOf 5 0)) 1 ∷ []) (areaBytes (group ∷ []))
-      ≡ some (record { nodes = Cut.nodeAt 1 second ∷ []; last = idOf 6 0; groups = group ∷ [] })
+      ≡ some (Cut.modelOf (Cut.nodeAt 1 second ∷ []) (withGroups (withLast emptyLedger (idOf 6 0)) (group ∷ [])))
   pub answered : answersAll 1 (map (λ (x : Asked). x .command) asks) none ≡ map (λ (x : Asked). x .answer) asks
   pub refused : answersAll 1 (map (λ (x : Asked). x .command) refusals) none ≡ map (λ (x : Asked). x .answer) refusals
   pub no-slot : answersAll 0 (onStream Command.setUp ∷ load [] ∷ []) (some Cut.emptyModel) ≡ Command.refused 1 ∷ Command.refused 1 ∷ []
@@ -233,7 +227,7 @@ pub record Computed : Type 0 where
       ∷ Indexed.found (Index.entry a 2) ∷ Indexed.removed 1 ∷ Indexed.removed 0 ∷ Indexed.nothing ∷ []
 
 pub computed : Computed
-unfolding Index.firstFrom Index.insert Index.lastUpTo Index.lookup Index.without Indexed.putTo Indexed.removeFrom Indexed.replies aged asks refusals series table wide le leValue be beFrom beValue allZero same orderOf area put spliced takeBytes idBytes idFrom differenceOf rebuiltOf idOrder followingOf digitsAfter positiveOf unsignedOf negativeOf signedOf patternOf digitsOf naturalText textOf itemOf integerBody textHead backLength encodeItem element textSize elementSize Listpack.elements Listpack.header Listpack.listpack backAt integerStands asInteger closeInteger textStands asText closeText tagWidth readWide readBy readElement parse parseMany parseListpack fits narrow extend areStrings arePairs slipPairs slip cutString parsePairs parseSlip masterStrings pairStrings entryStrings entriesStrings nodeStrings nodeBytes nodeSize slotOf isMessage sameStrings liveIn liveCount deletedCount readNumber readExactly readStrings readValues readPairs readEntry readEntries parseStrings parseNode parseSlot risingFrom areMessages isNode NodeStep.append NodeStep.takes NodeStep.fitsAlone NodeStep.markDeleted NodeStep.markOldest NodeStep.findMessage NodeStep.firstFrom NodeStep.withoutMessage NodeStep.valueOf areGroups isGroups regions areaBytes parseRegions parseArea placeOf pendingBytes allPending allNames bodyBytes allNameFields regionBytes areNames namesAbove risingNames isAmong pendingAbove pendingUpTo isPending arePending isGroup nameIn isField namesIn areFields entryId pendingIn isEntry allPendingIn areEntries deliveredIn groupIn namesPass entriesPass isRegion parseRegion takeName takeNames parseBody Groups.withName Groups.withoutName Groups.findPending Groups.putPending Groups.withoutPending Groups.pendingOf Groups.pendingOfOthers Groups.firstAbove Groups.deliver Groups.acknowledge Groups.claim Groups.nextPending Groups.dropConsumer Groups.findGroup Groups.putGroup Groups.withoutGroup Cut.entriesOf Cut.isTaken Cut.areNodes Cut.allUpTo Cut.isModel Cut.freeFrom Cut.lowestFree Cut.highestTakes Cut.addTo Cut.addMessage Cut.lacksSlot Cut.freed Cut.markInNodes Cut.deleteMessage Cut.markOldestInNodes Cut.deleteOldest Cut.addAll Cut.freshCut nodeOf nodesOf freeZero imageFrom messagesAbove isLedger onSetUp addAs clockId onTrim onCreate lacksConsumer firstAfter drops run answers step partsOf contents bodies fileOf snapshotOf saveReply loads takeParts parseFile readNode readParts parseSnapshot
+unfolding Index.firstFrom Index.insert Index.lastUpTo Index.lookup Index.without Indexed.putTo Indexed.removeFrom Indexed.replies aged asks refusals series table wide le leValue be beFrom beValue allZero same orderOf area put spliced takeBytes idBytes idFrom differenceOf rebuiltOf idOrder followingOf digitsAfter positiveOf unsignedOf negativeOf signedOf patternOf digitsOf naturalText textOf itemOf integerBody textHead backLength encodeItem element textSize elementSize Listpack.elements Listpack.header Listpack.listpack backAt integerStands asInteger closeInteger textStands asText closeText tagWidth readWide readBy readElement parse parseMany parseListpack fits narrow extend areStrings arePairs slipPairs slip cutString parsePairs parseSlip masterStrings pairStrings entryStrings entriesStrings nodeStrings nodeBytes nodeSize slotOf isMessage sameStrings liveIn liveCount deletedCount readNumber readExactly readStrings readValues readPairs readEntry readEntries parseStrings parseNode parseSlot risingFrom areMessages isNode NodeStep.append NodeStep.takes NodeStep.fitsAlone NodeStep.markDeleted NodeStep.markOldest NodeStep.findMessage NodeStep.firstFrom NodeStep.withoutMessage NodeStep.valueOf areGroups isGroups regions areaBytes parseRegions parseArea placeOf pendingBytes allPending allNames bodyBytes allNameFields regionBytes areNames namesAbove risingNames isAmong pendingAbove pendingUpTo isPending arePending isGroup nameIn isField namesIn areFields entryId pendingIn isEntry allPendingIn areEntries deliveredIn groupIn namesPass entriesPass isRegion parseRegion takeName takeNames parseBody Groups.withName Groups.withoutName Groups.findPending Groups.putPending Groups.withoutPending Groups.pendingOf Groups.pendingOfOthers Groups.firstAbove Groups.deliver Groups.acknowledge Groups.claim Groups.nextPending Groups.dropConsumer Groups.findGroup Groups.putGroup Groups.withoutGroup Cut.entriesOf Cut.isTaken Cut.areNodes Cut.allUpTo Cut.isModel Cut.freeFrom Cut.lowestFree Cut.goesToHighest Cut.appendToHighest Cut.addTo Cut.addMessage Cut.lacksSlot Cut.freed Cut.markInNodes Cut.deleteMessage Cut.markOldestInNodes Cut.deleteOldest Cut.addAll Cut.freshCut nodeOf nodesOf freeZero imageFrom messagesAbove isLedger onSetUp addAs clockId onTrim onCreate lacksConsumer firstAfter run answers step partsOf contents bodies fileOf snapshotOf saveReply loads takeParts parseFile readNode readParts parseSnapshot
 computed =
     record {
       written = refl;

@@ -8,10 +8,10 @@ use lib.Dec.{leb, eqb}
 use lib.ListN.{length}
 use Rattle.octets.specs.Pick.{pick}
 use Rattle.stream.specs.Ledger.{Ledger}
-use Rattle.stream.specs.Cut.{Model, emptyModel, ledgerOf, freshCut, mostSlots}
+use Rattle.stream.specs.Cut.{Model, modelOf, emptyModel, ledgerOf, freshCut, mostSlots}
 use Rattle.stream.specs.Command as Stream
 use Rattle.stream.specs.LedgerStep.{writes}
-use Rattle.stream.specs.Step.{Step, step, isRefusal}
+use Rattle.stream.specs.Step.{Step, step}
 use Rattle.stream.specs.Run.{Turn, run, answers}
 use Rattle.snapshot.specs.Bytes.{snapshotOf}
 use Rattle.snapshot.specs.Parse.{parseSnapshot}
@@ -28,7 +28,7 @@ saveReply room l =
 
 -- ledger and fresh cut are then the file's
 abbrev pub loaded : Ledger → Model
-loaded l = record { nodes = freshCut (l .messages); last = l .last; groups = l .groups }
+loaded l = modelOf (freshCut (l .messages)) l
 
 abbrev pub refuses : Model → ℕ → Step
 refuses m n = record { answer = Stream.refused n; after = m }
@@ -55,16 +55,10 @@ isSetUp (Stream.add i s) = false
 isSetUp (Stream.addByClock time s) = false
 isSetUp (Stream.delete i) = false
 isSetUp (Stream.trim k) = false
-isSetUp (Stream.next i) = false
-isSetUp (Stream.read i room) = false
-isSetUp (Stream.field i name room) = false
 isSetUp (Stream.createGroup name start) = false
 isSetUp (Stream.destroyGroup name) = false
-isSetUp (Stream.groupRead name consumer now) = false
-isSetUp (Stream.acknowledge name i) = false
-isSetUp (Stream.claim name consumer least i now) = false
-isSetUp (Stream.nextPending name consumer i) = false
-isSetUp (Stream.dropConsumer name consumer) = false
+isSetUp (Stream.asks q) = false
+isSetUp (Stream.inGroup name c) = false
 
 abbrev pub heals : Command → Bool
 heals (onStream c) = isSetUp c
@@ -72,7 +66,7 @@ heals (save room) = false
 heals (load file) = true
 
 abbrev pub healed : Step → Turn Stream.Answer (Option Model)
-healed s = record { answer = s .answer; after = pick (isRefusal (s .answer)) none (some (s .after)) }
+healed s = record { answer = s .answer; after = pick (Stream.isRefusal (s .answer)) none (some (s .after)) }
 
 -- a command on what is held; 2, nothing is
 abbrev pub turn : ℕ → Command → Option Model → Turn Stream.Answer (Option Model)

@@ -15,7 +15,7 @@ use Rattle.node.specs.Message.{Message, liveIn}
 use Rattle.node.specs.Parse.{parseNode}
 use Rattle.groups.specs.Group.{Group}
 use Rattle.groups.specs.Parse.{parseBody}
-use Rattle.stream.specs.Ledger.{Ledger, isLedger}
+use Rattle.stream.specs.Ledger.{Ledger, emptyLedger, withMessages, withLast, withGroups, isLedger}
 use Rattle.stream.specs.Cut.{freshCut, mostSlots}
 use Rattle.snapshot.specs.Bytes.{Part, part, snapshotOf}
 
@@ -47,24 +47,24 @@ pub record Held : Type 0 where
   pub messages : List Message
   pub groups : List Group
 
-abbrev pub withMessages : Held → List Message → Held
-withMessages h ms = record { messages = ms ++ h .messages; groups = h .groups }
+abbrev pub messagesBefore : Held → List Message → Held
+messagesBefore h ms = record { messages = ms ++ h .messages; groups = h .groups }
 
-abbrev pub withGroup : Held → Group → Held
-withGroup h g = record { messages = h .messages; groups = g ∷ h .groups }
+abbrev pub groupBefore : Held → Group → Held
+groupBefore h g = record { messages = h .messages; groups = g ∷ h .groups }
 
 unfoldable pub readParts : List Part → Option Held
 readParts [] = some (record { messages = []; groups = [] })
 readParts (p ∷ ps) = do
   h ← readParts ps
-  pick (eqb (p .kind) 2) (Option·map (withMessages h) (readNode (p .body))) (Option·map (withGroup h) (parseBody (p .body)))
+  pick (eqb (p .kind) 2) (Option·map (messagesBefore h) (readNode (p .body))) (Option·map (groupBefore h) (parseBody (p .body)))
 
 -- what a file seems to hold
 abbrev pub readLedger : List Part → Option Ledger
 readLedger [] = none
 readLedger (p ∷ ps) = do
   h ← readParts ps
-  some (record { messages = h .messages; last = idFrom (p .body); groups = h .groups })
+  some (withGroups (withLast (withMessages emptyLedger (h .messages)) (idFrom (p .body))) (h .groups))
 
 unfoldable pub parseSnapshot : List ℕ → Option Ledger
 parseSnapshot f = do
