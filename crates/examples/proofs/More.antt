@@ -4,16 +4,16 @@ use mathlib.Core.Path.{_≡_, refl}
 use mathlib.Core.List.{List, [], _∷_, _++_, map}
 use mathlib.Core.Option.{Option, some, none}
 use Prim.Native.Nat.{ℕ, zero, suc, _+_, _-_, _^_}
-use lib.ListN.{length, replicate}
+use lib.ListN.{length, take, replicate}
 use Rattle.octets.specs.Bytes.{zeros}
-use Rattle.id.specs.Id.{idOf, least, greatest}
+use Rattle.id.specs.Id.{idOf, top, least, greatest}
 use Rattle.radix.specs.Entries as Index
 use Rattle.index.specs.Operation as Indexed
-use Rattle.node.specs.Message.{Entry, live, Pair, pair}
+use Rattle.node.specs.Message.{Message, Entry, live, Pair, pair}
 use Rattle.groups.specs.Group.{Group, Pending}
 use Rattle.stream.specs.Ledger.{Ledger, emptyLedger, withMessages, withLast, withGroups}
 use Rattle.stream.specs.Command as Command
-use Rattle.snapshot.specs.Command.{Command, onStream, save, load, answersAll}
+use Rattle.snapshot.specs.Command.{Command, onStream, save, load, runAll, answersAll}
 use Rattle.examples.specs.Case.{Case, string, listpack, node, snapshot, bytesOf, readIn, Row, row, message}
 use Rattle.node.specs.Message.{areStrings, arePairs}
 use Rattle.slip.specs.Slip.{slipPairs, slip, cutString, parsePairs, parseSlip}
@@ -44,6 +44,7 @@ use Rattle.groups.specs.Step as Groups
 use Rattle.stream.specs.Cut as Cut
 use Rattle.stream.specs.Image.{nodeOf, nodesOf, freeZero, imageFrom}
 use Rattle.stream.specs.Ledger.{messagesAbove, isLedger}
+use Rattle.stream.specs.LedgerStep as LedgerStep
 use Rattle.stream.specs.LedgerStep.{onSetUp, addAs, clockId, onTrim, onCreate, firstAfter}
 use Rattle.groups.specs.Answer.{lacksConsumer}
 use Rattle.stream.specs.Run.{run, answers}
@@ -204,6 +205,73 @@ refusals =
     ∷ record { command = load (snapshotOf two); answer = Command.refused 17 }
     ∷ []))))
 
+-- a message that fills more than half of a node
+pub half : ℕ → Message
+unfolding wide
+half ms = LedgerStep.message (idOf ms 0) (wide 3)
+
+abbrev adds : ℕ → Asked
+adds ms = asked (Command.add (idOf ms 0) (slip (half ms .pairs))) (Command.given (idOf ms 0))
+
+-- two slots: a freed slot is used again, the lowest first; a trim counts across nodes
+abbrev slotted : List Asked
+slotted =
+    asked Command.setUp Command.done ∷ adds 1 ∷ adds 2
+    ∷ asked (Command.add (idOf 3 0) (slip (wide 3))) (Command.refused 7)
+    ∷ asked (Command.delete (idOf 1 0)) (Command.counted 1)
+    ∷ adds 3
+    ∷ asked (Command.addByClock 3 (slipOf a one)) (Command.given (idOf 3 1))
+    ∷ asked (Command.trim 1) (Command.counted 2)
+    ∷ []
+
+abbrev slotsHeld : Option Cut.Model → List ℕ
+slotsHeld none = []
+slotsHeld (some m) = map (λ (n : Cut.Node). n .slot) (m .nodes)
+
+-- 01's errors that look reasonable: field names through the master, a negative difference, last seq plus 1 at its end, saving a
+-- deleted message
+abbrev tempting : List Asked
+tempting =
+    asked Command.setUp Command.done
+    ∷ asked (Command.add (idOf 5 9) (slipOf a one)) (Command.given (idOf 5 9))
+    ∷ asked (Command.add (idOf 6 0) (slipOf b [])) (Command.given (idOf 6 0))
+    ∷ asked (Command.asks (Command.read (idOf 6 0) 100)) (Command.written (slipOf b []))
+    ∷ asked (Command.asks (Command.next (idOf 5 10))) (Command.given (idOf 6 0))
+    ∷ asked (Command.add (idOf 7 top) (slipOf a one)) (Command.given (idOf 7 top))
+    ∷ asked (Command.addByClock 6 (slipOf a one)) (Command.given (idOf 8 0))
+    ∷ asked (Command.delete (idOf 7 top)) (Command.counted 1)
+    ∷ asked (Command.trim 1) (Command.counted 2)
+    ∷ record { command = save 100; answer = Command.written (snapshotOf (withLast (withMessages emptyLedger (message 8 0 a one ∷ [])) (idOf 8 0))) }
+    ∷ []
+
+-- n entries of the consumer c, from the ID 1-seq on
+pub backlog : ℕ → ℕ → List Pending
+backlog zero seq = []
+backlog (suc n) seq = record { id = idOf 1 seq; consumer = 99 ∷ []; time = 0; count = 1 } ∷ backlog n (seq + 1)
+
+-- the group g with so many of them, and a message above its last delivered
+abbrev behind : ℕ → Cut.Model
+behind n =
+    Cut.modelOf (Cut.nodeAt 0 (live (message 2 0 a one) ∷ []) ∷ [])
+    (withGroups (withLast emptyLedger (idOf 2 0))
+    (record { name = 103 ∷ []; delivered = idOf 1 n; consumers = (99 ∷ []) ∷ []; pending = backlog n 1 } ∷ []))
+
+-- n nodes of a message each
+pub halves : ℕ → ℕ → List Message
+unfolding half
+halves zero ms = []
+halves (suc n) ms = half ms ∷ halves n (ms + 1)
+
+pub halfNodes : ℕ → List Message → List Cut.Node
+halfNodes s [] = []
+halfNodes s (m ∷ ms) = Cut.nodeAt s (live m ∷ []) ∷ halfNodes (s + 1) ms
+
+abbrev filled : ℕ → Cut.Model
+filled n = Cut.modelOf (halfNodes 0 (halves n 1)) (withLast emptyLedger (idOf n 0))
+
+abbrev codes : ℕ → List Command → Cut.Model → List ℕ
+codes slots cs m = map Command.codeOf (answersAll slots cs (some m))
+
 -- what is computed
 pub record Computed : Type 0 where
   pub written : map (λ (r : Row). bytesOf (r .what)) table ≡ map (λ (r : Row). r .bytes) table
@@ -219,6 +287,19 @@ pub record Computed : Type 0 where
   pub answered : answersAll 1 (map (λ (x : Asked). x .command) asks) none ≡ map (λ (x : Asked). x .answer) asks
   pub refused : answersAll 1 (map (λ (x : Asked). x .command) refusals) none ≡ map (λ (x : Asked). x .answer) refusals
   pub no-slot : answersAll 0 (onStream Command.setUp ∷ load [] ∷ []) (some Cut.emptyModel) ≡ Command.refused 1 ∷ Command.refused 1 ∷ []
+  pub slots2 : answersAll 2 (map (λ (x : Asked). x .command) slotted) none ≡ map (λ (x : Asked). x .answer) slotted
+  -- after the second add of ID 3-0 the nodes stand in the slots 1 and 0; after the trim the first of them is free
+  pub reused : slotsHeld (runAll 2 (map (λ (x : Asked). x .command) (take 6 slotted)) none) ≡ 1 ∷ 0 ∷ []
+  pub trimmed : slotsHeld (runAll 2 (map (λ (x : Asked). x .command) slotted) none) ≡ 0 ∷ []
+  pub tempted : answersAll 1 (map (λ (x : Asked). x .command) tempting) none ≡ map (λ (x : Asked). x .answer) tempting
+  -- 256 pending
+  pub pending255 : codes 1 (onStream (Command.inGroup g (Command.groupRead c 7)) ∷ []) (behind 255) ≡ 0 ∷ []
+  pub pending256 : codes 1 (onStream (Command.inGroup g (Command.groupRead c 7)) ∷ []) (behind 256) ≡ 13 ∷ []
+  -- a fresh cut of 64 nodes, and of 65
+  pub nodes64 : codes 64 (save 0 ∷ []) (filled 64) ≡ 8 ∷ []
+  pub nodes65 : codes 64 (save 0 ∷ []) (filled 65) ≡ 15 ∷ []
+  -- two nodes fit two slots
+  pub loaded2 : slotsHeld (runAll 2 (load (snapshotOf two) ∷ []) none) ≡ 0 ∷ 1 ∷ []
   -- the index by its entries
   pub indexed : Indexed.replies
       (Indexed.put [] 1 ∷ Indexed.put a 1 ∷ Indexed.put c 3 ∷ Indexed.put a 2 ∷ Indexed.find a ∷ Indexed.firstAtOrAbove b
@@ -227,7 +308,7 @@ pub record Computed : Type 0 where
       ∷ Indexed.found (Index.entry a 2) ∷ Indexed.removed 1 ∷ Indexed.removed 0 ∷ Indexed.nothing ∷ []
 
 pub computed : Computed
-unfolding Index.firstFrom Index.insert Index.lastUpTo Index.lookup Index.without Indexed.putTo Indexed.removeFrom Indexed.replies aged asks refusals series table wide le leValue be beFrom beValue allZero same orderOf area put spliced takeBytes idBytes idFrom differenceOf rebuiltOf idOrder followingOf digitsAfter positiveOf unsignedOf negativeOf signedOf patternOf digitsOf naturalText textOf itemOf integerBody textHead backLength encodeItem element textSize elementSize Listpack.elements Listpack.header Listpack.listpack backAt integerStands asInteger closeInteger textStands asText closeText tagWidth readWide readBy readElement parse parseMany parseListpack fits narrow extend areStrings arePairs slipPairs slip cutString parsePairs parseSlip masterStrings pairStrings entryStrings entriesStrings nodeStrings nodeBytes nodeSize slotOf isMessage sameStrings liveIn liveCount deletedCount readNumber readExactly readStrings readValues readPairs readEntry readEntries parseStrings parseNode parseSlot risingFrom areMessages isNode NodeStep.append NodeStep.takes NodeStep.fitsAlone NodeStep.markDeleted NodeStep.markOldest NodeStep.findMessage NodeStep.firstFrom NodeStep.withoutMessage NodeStep.valueOf areGroups isGroups regions areaBytes parseRegions parseArea placeOf pendingBytes allPending allNames bodyBytes allNameFields regionBytes areNames namesAbove risingNames isAmong pendingAbove pendingUpTo isPending arePending isGroup nameIn isField namesIn areFields entryId pendingIn isEntry allPendingIn areEntries deliveredIn groupIn namesPass entriesPass isRegion parseRegion takeName takeNames parseBody Groups.withName Groups.withoutName Groups.findPending Groups.putPending Groups.withoutPending Groups.pendingOf Groups.pendingOfOthers Groups.firstAbove Groups.deliver Groups.acknowledge Groups.claim Groups.nextPending Groups.dropConsumer Groups.findGroup Groups.putGroup Groups.withoutGroup Cut.entriesOf Cut.isTaken Cut.areNodes Cut.allUpTo Cut.isModel Cut.freeFrom Cut.lowestFree Cut.goesToHighest Cut.appendToHighest Cut.addTo Cut.addMessage Cut.lacksSlot Cut.freed Cut.markInNodes Cut.deleteMessage Cut.markOldestInNodes Cut.deleteOldest Cut.addAll Cut.freshCut nodeOf nodesOf freeZero imageFrom messagesAbove isLedger onSetUp addAs clockId onTrim onCreate lacksConsumer firstAfter run answers step partsOf contents bodies fileOf snapshotOf saveReply loads takeParts parseFile readNode readParts parseSnapshot
+unfolding half halves halfNodes backlog Index.firstFrom Index.insert Index.lastUpTo Index.lookup Index.without Indexed.putTo Indexed.removeFrom Indexed.replies aged asks refusals series table wide le leValue be beFrom beValue allZero same orderOf area put spliced takeBytes idBytes idFrom differenceOf rebuiltOf idOrder followingOf digitsAfter positiveOf unsignedOf negativeOf signedOf patternOf digitsOf naturalText textOf itemOf integerBody textHead backLength encodeItem element textSize elementSize Listpack.elements Listpack.header Listpack.listpack backAt integerStands asInteger closeInteger textStands asText closeText tagWidth readWide readBy readElement parse parseMany parseListpack fits narrow extend areStrings arePairs slipPairs slip cutString parsePairs parseSlip masterStrings pairStrings entryStrings entriesStrings nodeStrings nodeBytes nodeSize slotOf isMessage sameStrings liveIn liveCount deletedCount readNumber readExactly readStrings readValues readPairs readEntry readEntries parseStrings parseNode parseSlot risingFrom areMessages isNode NodeStep.append NodeStep.takes NodeStep.fitsAlone NodeStep.markDeleted NodeStep.markOldest NodeStep.findMessage NodeStep.firstFrom NodeStep.withoutMessage NodeStep.valueOf areGroups isGroups regions areaBytes parseRegions parseArea placeOf pendingBytes allPending allNames bodyBytes allNameFields regionBytes areNames namesAbove risingNames isAmong pendingAbove pendingUpTo isPending arePending isGroup nameIn isField namesIn areFields entryId pendingIn isEntry allPendingIn areEntries deliveredIn groupIn namesPass entriesPass isRegion parseRegion takeName takeNames parseBody Groups.withName Groups.withoutName Groups.findPending Groups.putPending Groups.withoutPending Groups.pendingOf Groups.pendingOfOthers Groups.firstAbove Groups.deliver Groups.acknowledge Groups.claim Groups.nextPending Groups.dropConsumer Groups.findGroup Groups.putGroup Groups.withoutGroup Cut.entriesOf Cut.isTaken Cut.areNodes Cut.allUpTo Cut.isModel Cut.freeFrom Cut.lowestFree Cut.goesToHighest Cut.appendToHighest Cut.addTo Cut.addMessage Cut.lacksSlot Cut.freed Cut.markInNodes Cut.deleteMessage Cut.markOldestInNodes Cut.deleteOldest Cut.addAll Cut.freshCut nodeOf nodesOf freeZero imageFrom messagesAbove isLedger onSetUp addAs clockId onTrim onCreate lacksConsumer firstAfter run answers step partsOf contents bodies fileOf snapshotOf saveReply loads takeParts parseFile readNode readParts parseSnapshot
 computed =
     record {
       written = refl;
@@ -240,5 +321,14 @@ computed =
       answered = refl;
       refused = refl;
       no-slot = refl;
+      slots2 = refl;
+      reused = refl;
+      trimmed = refl;
+      tempted = refl;
+      pending255 = refl;
+      pending256 = refl;
+      nodes64 = refl;
+      nodes65 = refl;
+      loaded2 = refl;
       indexed = refl;
     }
