@@ -7,8 +7,8 @@ use Prim.Native.Nat.{ℕ, zero, suc, _+_, _-_, _^_}
 use lib.ListN.{length, take, replicate}
 use Rattle.octets.specs.Bytes.{zeros}
 use Rattle.id.specs.Id.{idOf, top, least, greatest}
-use Rattle.radix.specs.Entries as Index
-use Rattle.index.specs.Operation as Indexed
+use Rattle.keys.specs.Entries as Index
+use Rattle.keys.specs.Operation as Indexed
 use Rattle.node.specs.Message.{Message, Entry, live, Pair, pair}
 use Rattle.groups.specs.Group.{Group, Pending}
 use Rattle.stream.specs.Ledger.{Ledger, emptyLedger, withMessages, withLast, withGroups}

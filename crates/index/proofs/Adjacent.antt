@@ -1,23 +1,23 @@
 -- Each return of the neighbours: on the tree of a record that holds entries the walks answer the map's neighbours. Assumes nothing.
-use mathlib.Core.Bool.{Bool, true, false}
-use mathlib.Core.Path.{_≡_, refl, sym, ap, _∙_, subst, subst⁻¹}
+use mathlib.Core.Bool.{true, false}
+use mathlib.Core.Path.{_≡_, refl, ap, _∙_, subst⁻¹}
 use mathlib.Core.List.{List, []}
 use mathlib.Core.Option.{Option, some, none}
 use Prim.Native.Nat.{ℕ, _-_, _≤_}
 use native.Mathlib.Omega.{arith}
-use lib.ListN.{length, take, getD, length-take}
+use lib.ListN.{length, getD, length-take}
 use lib.Seq.{take-at}
 use Rattle.octets.specs.Bytes.{zeros}
 use Rattle.radix.specs.declared.Index.{Index}
-use Rattle.radix.specs.Entries.{Entry, entry, isKey, firstFrom, lastUpTo}
+use Rattle.keys.specs.Entries.{Entry, entry, isKey, firstFrom, lastUpTo}
 use Rattle.radix.specs.Shape.{Shape}
 use Rattle.radix.specs.Walk.{firstIn, lastIn}
 use Rattle.radix.specs.Record.{nodesOf, treeAt, entriesOf}
-use Rattle.radix.proofs.Laws.{Holds, holds}
+use Rattle.radix.proofs.Laws.{holds}
 use Rattle.radix_walk.specs.declared.near.Near.{Near}
 use Rattle.radix_walk.specs.Neighbours.{nearOf, cutKey}
-use Rattle.radix_walk.proofs.Uncut.{near-first, near-last}
-use Rattle.index.specs.Operation.{Operation, firstAtOrAbove, lastAtOrBelow, entryReply, Reply, refused, operate}
+use Rattle.radix_walk.proofs.Laws.{near-first, near-last}
+use Rattle.keys.specs.Operation.{firstAtOrAbove, lastAtOrBelow, entryReply, Reply, refused}
 use Rattle.index.specs.Promise.{Answers, IsSound}
 use Rattle.index.specs.Answer.{nearReply}
 use Rattle.index.proofs.Steps.{sound-some}

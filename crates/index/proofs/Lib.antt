@@ -1,6 +1,5 @@
 -- Laws is what callers cite; the others are its topics.
 pub mod Laws
-pub mod Kept
 pub mod Steps
 pub mod Adjacent
 pub mod Sequence

@@ -1,30 +1,14 @@
 -- The claim about a whole list of operations. Assumes nothing.
-use mathlib.Core.Bool.{Bool, true, false, true≢false}
 use mathlib.Core.Path.{_≡_, refl, sym, ap, ap₂, _∙_, subst}
 use mathlib.Core.List.{List, [], _∷_}
-use mathlib.Core.Option.{Option, some, none}
-use Prim.Native.Nat.{ℕ}
-use Rattle.octets.specs.Pick.{pick}
+use mathlib.Core.Option.{Option, some}
+use Rattle.keys.proofs.Laws.{reads-after}
 use Rattle.radix.specs.declared.Index.{Index}
-use Rattle.radix.specs.Entries.{Entry, isKey}
+use Rattle.keys.specs.Entries.{Entry}
 use Rattle.radix.specs.Record.{entriesOf}
-use Rattle.index.specs.Operation.{Operation, put, remove, find, firstAtOrAbove, lastAtOrBelow, Reply, refused, stays, keyed, operate, replies, operateAll}
+use Rattle.keys.specs.Operation.{Operation, Reply, operate, replies, operateAll}
 use Rattle.index.specs.Promise.{Answers, Shows, Changes}
-use Rattle.index.specs.Run.{onlyReads, Made, made-none, made-change, made-answer}
-
-stays-after : (k : List ℕ) (es : List Entry) (r : Reply) → keyed k es (stays es r) .after ≡ es
-stays-after k es r = go (isKey k)
-  where
-    go : (t : Bool) → pick t (stays es r) (stays es (refused 3)) .after ≡ es
-    go true = refl
-    go false = refl
-
-reads-after : (o : Operation) (es : List Entry) → onlyReads o ≡ true → operate o es .after ≡ es
-reads-after (put k v) es e = absurd (true≢false (sym e))
-reads-after (remove k) es e = absurd (true≢false (sym e))
-reads-after (find k) es e = stays-after k es _
-reads-after (firstAtOrAbove k) es e = stays-after k es _
-reads-after (lastAtOrBelow k) es e = stays-after k es _
+use Rattle.index.specs.Run.{Made, made-none, made-change, made-answer}
 
 changed : (o : Operation) (x y : Index) (a : Reply) (es : List Entry) → entriesOf x ≡ some es → Changes o (entriesOf x) x a y → Shows (operate o es) x a y
 changed o x y a es e h = subst (λ (w : Option (List Entry)). Changes o w x a y) e h

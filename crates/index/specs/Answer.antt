@@ -1,9 +1,9 @@
 -- What the answers of the code say, in the terms of Operation. Assumes nothing.
 use lib.ListN.{take}
 use Rattle.octets.specs.Pick.{pick}
-use Rattle.radix.specs.Entries.{Entry, entry}
+use Rattle.keys.specs.Entries.{Entry, entry}
 use Rattle.radix_walk.specs.declared.near.Near.{Near}
-use Rattle.index.specs.Operation.{Reply, refused, done, removed, value, found, nothing}
+use Rattle.keys.specs.Operation.{value, Reply, refused, done, removed, found, nothing}
 use Rattle.index.specs.declared.Answer.{Answer}
 use Rattle.index.specs.declared.Answer.the-variants.{Done, Removed, Held, Absent, Refused}
 use Rattle.index.specs.declared.Outcome.{Outcome}

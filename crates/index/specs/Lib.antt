@@ -1,5 +1,4 @@
--- Read in this order, after the definitions of the crate radix: Entries, Shape, Record.
-pub mod Operation
+-- Read in this order, after Entries and Operation of the crate keys, and Record of radix.
 pub mod Answer
 pub mod Promise
 pub mod Run

@@ -3,10 +3,9 @@
 use mathlib.Core.Path.{_≡_}
 use mathlib.Core.List.{List}
 use mathlib.Core.Option.{Option, some, none}
-use Prim.Native.Nat.{ℕ}
 use Rattle.radix.specs.declared.Index.{Index}
-use Rattle.radix.specs.Entries.{Entry}
-use Rattle.index.specs.Operation.{Operation, Reply, refused, done, removed, value, found, nothing, Replied, operate}
+use Rattle.keys.specs.Entries.{Entry}
+use Rattle.keys.specs.Operation.{value, Operation, Reply, refused, done, removed, found, nothing, Replied, operate}
 use Rattle.radix.specs.Record.{entriesOf}
 
 -- an operation that only reads

@@ -1,18 +1,11 @@
 -- A list of operations on a record, each keeping its promise. Assumes nothing.
-use mathlib.Core.Bool.{Bool, true, false}
+use mathlib.Core.Bool.{true}
 use mathlib.Core.Path.{_≡_}
 use mathlib.Core.List.{List, [], _∷_}
 use Rattle.radix.specs.declared.Index.{Index}
 use Rattle.radix.specs.Record.{entriesOf}
-use Rattle.index.specs.Operation.{Operation, put, remove, find, firstAtOrAbove, lastAtOrBelow, Reply}
+use Rattle.keys.specs.Operation.{Operation, Reply, onlyReads}
 use Rattle.index.specs.Promise.{Answers, Changes}
-
-abbrev pub onlyReads : Operation → Bool
-onlyReads (put k v) = false
-onlyReads (remove k) = false
-onlyReads (find k) = true
-onlyReads (firstAtOrAbove k) = true
-onlyReads (lastAtOrBelow k) = true
 
 -- the record x became z, with these replies
 pub data Made : List Operation → Index → Index → List Reply → Type 0 where

@@ -3,12 +3,12 @@
 ghost use mathlib.Core.Path.{_≡_};
 ghost use Prim.Native.Nat.{_≤_};
 ghost use Rattle.radix.specs.Record.{entriesOf};
-ghost use Rattle.index.specs.Operation.{refused, firstAtOrAbove, lastAtOrBelow};
+ghost use Rattle.keys.specs.Operation.{refused, firstAtOrAbove, lastAtOrBelow};
 ghost use Rattle.index.specs.Answer.{nearReply, neighbourReply};
 ghost use Rattle.index.specs.Promise.{Answers, IsSound};
 use crate::Neighbour;
 use crate::Outcome;
-use crate::operation::is_key;
+use keys::is_key;
 use radix::Index;
 use radix_walk::Near;
 

@@ -2,7 +2,6 @@
 
 mod adjoining;
 mod operation;
-mod row;
 
 pub use adjoining::first_at_or_above;
 pub use adjoining::first_at_or_above_sound;

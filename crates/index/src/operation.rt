@@ -5,38 +5,28 @@ ghost use mathlib.Core.List.{[]};
 ghost use mathlib.Core.Option.{some};
 ghost use Prim.Native.Nat.{_+_, _≤_};
 ghost use lib.ListN.{length};
-ghost use Rattle.radix.specs.Entries.{isKey};
-ghost use Rattle.index.specs.Operation.{put, remove, find, operate};
+ghost use Rattle.keys.specs.Operation.{put, remove, find, operate};
 ghost use Rattle.radix.specs.Record.{entriesOf};
-ghost use Rattle.radix.specs.Answer.{tabled};
+ghost use Rattle.keys.specs.Table.{tabled};
 ghost use Rattle.index.specs.Answer.{replyOf};
 ghost use Rattle.index.specs.Promise.{Answers, Shows, Changes, IsSound};
 use crate::Answer;
 use crate::Changed;
-use crate::row::is_row;
-use crate::row::no_rows;
-use crate::row::rank_of;
-use crate::row::with_row;
-use crate::row::without_row;
+use keys::Table;
+use keys::is_key;
+use keys::is_row;
+use keys::no_rows;
+use keys::rank_of;
+use keys::with_row;
+use keys::without_row;
 use radix::Found;
 use radix::Index;
-use radix::Table;
 
 // The record of no entries.
 pub fn empty() -> Index
     ensures { λ r. ⌜ entriesOf r ≡ some [] ⌝ }
 {
     radix::build(no_rows())
-}
-
-// A key has 1 to 16 bytes.
-pub fn is_key(k: &[u8]) -> bool
-    ensures { λ r. ⌜ r ≡ isKey (now (k .entry)) ⌝ }
-{
-    if k.len() < 1 {
-        return false;
-    }
-    k.len() <= 16
 }
 
 // Put, where the table t has the entries of the record x.

@@ -9,13 +9,14 @@ use native.Mathlib.Omega.{arith}
 use lib.Dec.{leb}
 use lib.ListN.{length, length-append}
 use borrow.Author.Tests.{leb-true, leb-false}
-use Rattle.radix.specs.Entries.{Entry, entry, rising, allAbove, isMap}
+use Rattle.keys.specs.Entries.{Entry, entry, rising, allAbove, isMap}
 use Rattle.radix.specs.Shape.{Shape, nil, node, own, longer, ownEntry, prefixOf, cut, entriesIn, startingWith, notStartingWith, child, branch, childrenOf, shape}
 use Rattle.radix.specs.Canon.{isEnd, canonical}
 use Rattle.radix.proofs.Under.{under, remainders, entries-node, entries-only, cut-under, prefix-cut}
-use Rattle.radix.proofs.Keys.{From, Short, StartsAt, keys-left, keys-right, short-under, longer-from}
-use Rattle.radix.proofs.Sorted.{rising-under, rising-left, rising-right, longer-some, own-longer, Parted, part, part-same}
-use Rattle.radix.proofs.Fits.{map-rising, map-fit, fit-from, fit-short}
+use Rattle.radix.proofs.Keys.{From, StartsAt, short-under, longer-from}
+use Rattle.keys.proofs.Laws.{Short, keys-left, keys-right, rising-left, rising-right, map-rising, map-fit}
+use Rattle.radix.proofs.Sorted.{rising-under, longer-some, own-longer, Parted, part, part-same}
+use Rattle.radix.proofs.Fits.{fit-from, fit-short}
 use Rattle.radix.proofs.Rules.{Rules, leaf, only, oneOf, Some, rules-canonical, some-under, end-held, held-entries, some-held, prefix-some, some-length}
 
 -- the rules, and the entries

@@ -7,11 +7,11 @@ use Prim.Native.Nat.{ℕ, suc, _+_, _*_, _≤_}
 use native.Mathlib.Omega.{arith}
 use lib.ListN.{length, drop, length-append, length-drop}
 use Rattle.octets.specs.Pick.{pick, both}
-use Rattle.radix.specs.Entries.{Entry, isMap}
+use Rattle.keys.specs.Entries.{Entry, isMap}
 use Rattle.radix.specs.Shape.{Shape, nil, node, ownEntry, entriesIn, longer, prefixOf, branch, childrenOf, shape, nodes, nodeCount, startsWith, pathOf, pathLength}
 use Rattle.radix.specs.Canon.{isNil, isEnd, isHeld}
 use Rattle.radix.proofs.Under.{under, remainders, entries-node}
-use Rattle.radix.proofs.Fits.{map-length}
+use Rattle.keys.proofs.Laws.{map-length}
 use Rattle.radix.proofs.Rules.{Rules, leaf, only, oneOf, Some, length-some}
 use Rattle.radix.proofs.Back.{shape-back, shape-rules}
 

@@ -1,24 +1,23 @@
 -- Rising entries taken apart as a node's children are: those that start like the first, and the others. Assumes nothing.
 use mathlib.Core.Bool.{Bool, true, false}
-use mathlib.Core.Path.{_≡_, refl, sym, ap, ap₂, _∙_, subst, subst⁻¹}
+use mathlib.Core.Path.{_≡_, refl, sym, ap, ap₂, _∙_, subst}
 use mathlib.Core.List.{List, [], _∷_, _++_, append-nil}
-use mathlib.Core.Option.{Option, some, none}
-use Prim.Native.Nat.{ℕ, zero, suc, _+_, _≤_, _<_}
+use Prim.Native.Nat.{ℕ, suc, _+_, _≤_}
 use native.Mathlib.Nat.{le-refl}
 use native.Mathlib.Omega.{arith}
-use borrow.Author.Tests.{eq-eqb, ne-eqb, eqb-true, eqb-false}
+use borrow.Author.Tests.{eq-eqb, ne-eqb, eqb-true}
 use lib.Dec.{eqb}
 use lib.ListN.{length, take, drop, length-append}
 use lib.Seq.{take-at, drop-at, take-length}
 use Rattle.octets.specs.Pick.{pick, both}
-use Rattle.radix.specs.Entries.{Entry, entry, rising, allAbove}
+use Rattle.keys.specs.Entries.{Entry, entry, rising, allAbove}
 use Rattle.radix.specs.Shape.{firstByte, prefixOf, cut, longer, own, ownEntry}
 use Rattle.radix.specs.Layout.{alike, group, stretch, ownFirst, afterOwn, firstKey}
 use Rattle.radix.proofs.Under.{under, cut-under, prefix-cut}
-use Rattle.radix.proofs.Keys.{StartsAt, From, Short}
-use Rattle.radix.proofs.Sorted.{Parted, part, part-same, rising-under, rising-left, rising-right, rising-tail, above-from, longer-some, own-longer}
-use Rattle.radix.proofs.Rules.{Some, some-length, some-under, prefix-some}
-use Rattle.radix.proofs.Back.{past-prefix}
+use Rattle.radix.proofs.Keys.{StartsAt, From}
+use Rattle.keys.proofs.Laws.{Short, rising-left, rising-tail}
+use Rattle.radix.proofs.Sorted.{part, rising-under, above-from, longer-some, own-longer}
+use Rattle.radix.proofs.Rules.{Some, some-length, prefix-some}
 
 pub under-length : (l : List ℕ) (es : List Entry) → length (under l es) ≡ length es
 under-length l [] = refl

@@ -1,24 +1,24 @@
 -- The rows of a map, ready to be laid; and the record that they make. Assumes nothing.
-use mathlib.Core.Bool.{Bool, true}
-use mathlib.Core.Path.{_≡_, refl, sym, ap, ap₂, _∙_, subst, subst⁻¹}
+use mathlib.Core.Bool.{true}
+use mathlib.Core.Path.{_≡_, refl, sym, ap, ap₂, _∙_, subst⁻¹}
 use mathlib.Core.List.{List, [], _∷_}
-use Prim.Native.Nat.{ℕ, zero, suc, _+_, _-_, _≤_, _<_}
-use native.Mathlib.Nat.{sub-zero, zero-add}
+use Prim.Native.Nat.{ℕ, _+_, _-_, _≤_}
+use native.Mathlib.Nat.{sub-zero}
 use native.Mathlib.Omega.{arith}
 use lib.Dec.{eqb}
 use lib.ListN.{length, set}
 use Rattle.octets.specs.Pick.{pick}
 use Rattle.radix.specs.declared.Index.{Index}
-use Rattle.radix.specs.Entries.{Entry, entry, rising, isMap}
+use Rattle.keys.specs.Entries.{Entry, rising, isMap}
 use Rattle.radix.specs.Shape.{Shape, nodes, cut, shape, nodeCount}
 use Rattle.radix.specs.Record.{Nodes}
-use Rattle.radix.specs.Table.{Columns, rowsFrom}
-use Rattle.radix.specs.Layout.{sprout, linkTo, laid, blank, placeShape, recordOf, record-is}
+use Rattle.keys.specs.Table.{Columns, rowsFrom}
+use Rattle.radix.specs.Layout.{sprout, laid, blank, placeShape, recordOf, record-is}
 use Rattle.radix.specs.Rows.{restAt, Ready}
 use Rattle.radix.proofs.Keys.{From}
-use Rattle.radix.proofs.Fits.{map-length, map-rising, map-fit, fit-from}
+use Rattle.keys.proofs.Laws.{map-length, map-rising, map-fit, length-rows}
+use Rattle.radix.proofs.Fits.{fit-from}
 use Rattle.radix.proofs.Bounds.{count-most}
-use Rattle.radix.proofs.Rows.{length-rows}
 use Rattle.radix.proofs.Laying.{from-long}
 use Rattle.radix.proofs.Sprouts.{shape-sprout}
 use Rattle.radix.proofs.Growing.{link-is}

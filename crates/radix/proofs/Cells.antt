@@ -1,20 +1,20 @@
 -- Places of the pool written one after the other: what is written, and what is kept. Assumes nothing.
 use mathlib.Core.Bool.{Bool, true, false}
-use mathlib.Core.Path.{_≡_, refl, sym, ap, ap₂, _∙_, subst}
-use mathlib.Core.List.{List, [], _∷_, _++_}
-use mathlib.Core.Option.{Option, some, none}
-use Prim.Native.Nat.{ℕ, zero, suc, _+_, _*_, _-_, _≤_, _<_}
+use mathlib.Core.Path.{_≡_, refl, sym, ap, _∙_}
+use mathlib.Core.List.{List, _++_}
+use mathlib.Core.Option.{Option}
+use Prim.Native.Nat.{ℕ, _+_, _*_, _≤_, _<_}
 use native.Mathlib.Nat.{add-zero, zero-add}
 use native.Mathlib.Omega.{arith}
 use borrow.Author.Tests.{leb-true, leb-false}
 use lib.Dec.{leb}
-use lib.ListN.{length, getD, set, take, drop, replicate, length-set}
-use lib.Seq.{getD-set-same, getD-set-other, take-take, take-at}
+use lib.ListN.{length, getD, drop, length-set}
+use lib.Seq.{getD-set-same, getD-set-other}
 use Rattle.octets.specs.Bytes.{zeros}
 use Rattle.octets.specs.Place.{area, put}
 use Rattle.octets.proofs.Laws.{area-before, area-after, area-put-in, length-put}
 use Rattle.radix.specs.Shape.{Shape, nil, node, nodes}
-use Rattle.radix.specs.Record.{Nodes, lengthOf, labelOf, valueOf}
+use Rattle.radix.specs.Record.{Nodes}
 use Rattle.radix.specs.Layout.{flagOf, valueOr0, withCell, linkTo, laid}
 
 pub record Long (x : Nodes) : Type 0 where

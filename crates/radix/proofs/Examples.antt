@@ -3,7 +3,7 @@ use mathlib.Core.Path.{_≡_, refl}
 use mathlib.Core.List.{List, [], _∷_, map}
 use Prim.Native.Nat.{ℕ}
 use Rattle.octets.specs.Compare.{orderOf, same}
-use Rattle.radix.specs.Entries.{Entry, entry, insert, without}
+use Rattle.keys.specs.Entries.{Entry, entry, insert, without}
 use Rattle.radix.specs.Shape.{own, longer, common, prefixOf, cut, startingWith, notStartingWith, branch, childrenOf, shape, nodes, nodeCount, startsWith, pathOf, pathLength, entriesIn}
 
 abbrev foo : List ℕ

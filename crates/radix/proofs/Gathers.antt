@@ -1,19 +1,31 @@
 -- The entries of a tree gathered, one node at a time. Assumes nothing.
-use mathlib.Core.Bool.{Bool, true, false}
-use mathlib.Core.Path.{_≡_, refl, sym, ap, ap₂, _∙_}
+use mathlib.Core.Bool.{true, false}
+use mathlib.Core.Path.{_≡_, ap, _∙_}
 use mathlib.Core.List.{List, [], _∷_, _++_}
 use mathlib.Core.Option.{Option, some, none}
-use Prim.Native.Nat.{ℕ, zero, suc, _+_, _*_, _-_, _≤_, _<_}
+use Prim.Native.Nat.{ℕ, _+_, _*_, _-_, _≤_, _<_}
 use native.Mathlib.Omega.{arith}
 use borrow.Author.Tests.{le-leb, lt-leb}
 use lib.ListN.{length, getD}
 use Rattle.octets.specs.Place.{area}
 use Rattle.octets.proofs.Laws.{length-area}
-use Rattle.radix.specs.Entries.{Entry}
+use Rattle.keys.specs.Entries.{Entry, entry}
 use Rattle.radix.specs.Shape.{node}
-use Rattle.radix.specs.Record.{Nodes, leadsOn, lengthOf, labelOf, valueOf, treeAt}
-use Rattle.radix.specs.Table.{withOwn, gathered}
+use Rattle.radix.specs.Record.{Nodes, leadsOn, labelOf, valueOf, treeAt}
+use Rattle.keys.specs.Table.{lengthOf, Columns, rowsFrom}
+use Rattle.radix.specs.Gathering.{withOwn, gathered}
 use Rattle.radix.proofs.Turns.{leads-to, tree-not, tree-node}
+use mathlib.Core.Bool.{true, false}
+use mathlib.Core.Path.{_≡_, ap, _∙_}
+use mathlib.Core.List.{List, _∷_, _++_}
+use mathlib.Core.Option.{Option, some, none}
+use Prim.Native.Nat.{ℕ, _+_, _*_, _-_, _≤_, _<_, _^_}
+use native.Mathlib.Omega.{arith}
+use borrow.Author.Tests.{ne-eqb, lt-ltb, le-ltb}
+use lib.Dec.{eqb}
+use lib.ListN.{length, getD}
+use Rattle.octets.specs.Pick.{pick}
+use Rattle.keys.proofs.Laws.{length-rows}
 
 module _ (x : Nodes) (left link : ℕ) (before : List ℕ) (es : List Entry) where
   pub gather-nil : leadsOn left link ≡ false → some es ≡ gathered before (treeAt left x link) es
@@ -49,3 +61,15 @@ module _ (x : Nodes) (left link : ℕ) (before : List ℕ) (es : List Entry) whe
             → gathered before (treeAt (left - 1) x l) gs ≡ gathered before (treeAt left x link) es
         unfolding gathered
         gather-later gs z l k = rw (at-node, b, long, le-leb (d + n) 16 fit, ← whole, ← w, p, ← g, ← r, z, ← k)
+
+-- a key node's own row
+module _ (k : List ℕ) (f v : ℕ) (t : Columns) (n : ℕ) where
+  pub own-none : f ≡ 0 → some (rowsFrom t 0 n) ≡ withOwn k (pick (eqb f 0) none (some v)) (rowsFrom t 0 n)
+  own-none z = rw z
+
+  pub own-full : (f ≡ 0 → ⊥) → 64 ≤ n → none ≡ withOwn k (pick (eqb f 0) none (some v)) (rowsFrom t 0 n)
+  own-full z h = rw (ne-eqb f 0 z, length-rows t 0 n, le-ltb n 64 h)
+
+  pub own-added : (f ≡ 0 → ⊥) → n < 64 → v < 2 ^ 32 → (u : Columns) → rowsFrom u 0 (n + 1) ≡ rowsFrom t 0 n ++ (entry k v ∷ [])
+      → some (rowsFrom u 0 (n + 1)) ≡ withOwn k (pick (eqb f 0) none (some v)) (rowsFrom t 0 n)
+  own-added z h w u e = rw (ne-eqb f 0 z, length-rows t 0 n, lt-ltb n 64 h, lt-ltb v (2 ^ 32) w, e)

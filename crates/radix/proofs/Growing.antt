@@ -1,7 +1,7 @@
 -- One step of `grow`: what the code works out of the rows is what `sprout` makes of their entries. Assumes nothing.
 use mathlib.Core.Bool.{Bool, true, false}
 use mathlib.Core.Path.{_≡_, refl, sym, ap, ap₂, _∙_, subst, subst⁻¹}
-use mathlib.Core.List.{List, [], _∷_, _++_}
+use mathlib.Core.List.{List, [], _∷_}
 use mathlib.Core.Option.{Option, some, none}
 use Prim.Native.Nat.{ℕ, zero, suc, _+_, _*_, _-_, _≤_, _<_}
 use native.Mathlib.Nat.{add-zero}
@@ -13,18 +13,18 @@ use lib.Seq.{take-take}
 use Rattle.octets.specs.Pick.{pick, both}
 use Rattle.octets.specs.Place.{area}
 use Rattle.octets.proofs.Laws.{length-area}
-use Rattle.radix.specs.Entries.{Entry, entry, rising}
+use Rattle.keys.specs.Entries.{Entry, entry, rising}
 use Rattle.radix.specs.Shape.{Shape, nil, node, nodes, common, cut, prefixOf, firstByte}
-use Rattle.radix.specs.Record.{Nodes, lengthOf}
-use Rattle.radix.specs.Table.{Columns, rowAt, rowsFrom}
+use Rattle.radix.specs.Record.{Nodes}
+use Rattle.keys.specs.Table.{lengthOf, Columns, rowsFrom}
 use Rattle.radix.specs.Layout.{alike, group, stretch, ownFirst, afterOwn, firstKey, sproutNode, sproutAll, sprout, flagOf, valueOr0, linkTo, withCell, laid}
 use Rattle.radix.specs.Rows.{alikeAt, shareAt, restAt, Ready}
 use Rattle.radix.proofs.Under.{under}
-use Rattle.radix.proofs.Keys.{StartsAt, From, keys-right}
-use Rattle.radix.proofs.Sorted.{rising-right}
+use Rattle.radix.proofs.Keys.{From}
+use Rattle.keys.proofs.Laws.{rising-right}
 use Rattle.radix.proofs.Turns.{first-some}
-use Rattle.radix.proofs.Branches.{Grouped, grouped, group-take, group-drop, group-sum, group-some, Branch, branch, branch-rest, branch-label, after-from, after-rising}
-use Rattle.radix.proofs.Laying.{drop-area, cut-cons, cut-length, cut-take, cut-drop, cut-cut, rest-nil, long-from, from-long, alike-rest, prefix-ends, lastOf}
+use Rattle.radix.proofs.Branches.{Grouped, grouped, group-drop, group-sum, Branch, branch, branch-rest, after-from, after-rising}
+use Rattle.radix.proofs.Laying.{drop-area, cut-cons, cut-length, cut-take, cut-drop, cut-cut, long-from, from-long, alike-rest, prefix-ends, lastOf}
 
 same-test : (a m b : ℕ) → a ≤ m → a ≤ b → eqb (m - a) (b - a) ≡ eqb m b
 same-test a m b h k = go (eqb m b) refl

@@ -1,4 +1,4 @@
--- Facts of every key of a list of entries: its first byte, its length. Assumes nothing.
+-- The first bytes of the keys of a list of entries, and keys below some bytes. Assumes nothing.
 use mathlib.Core.Path.{_≡_, refl, ap}
 use mathlib.Core.Bool.{false}
 use mathlib.Core.List.{List, [], _∷_, _++_}
@@ -8,13 +8,10 @@ use native.Mathlib.Omega.{arith}
 use lib.Dec.{eqb}
 use lib.ListN.{length, length-append}
 use borrow.Author.Tests.{ne-eqb}
-use Rattle.radix.specs.Entries.{Entry, entry}
+use Rattle.keys.specs.Entries.{Entry, entry}
 use Rattle.radix.specs.Shape.{own, longer, firstByte, startingWith, notStartingWith}
 use Rattle.radix.proofs.Under.{under}
-
-abbrev pub Keys : (List ℕ → Type 0) → List Entry → Type 0
-Keys P [] = Unit {0}
-Keys P (e ∷ es) = P (e .key) × Keys P es
+use Rattle.keys.proofs.Laws.{Keys, Short, keys-map}
 
 -- a byte n or more stands first
 abbrev pub StartsAt : ℕ → List ℕ → Type 0
@@ -24,31 +21,12 @@ StartsAt n (b ∷ k) = n ≤ b
 abbrev pub From : ℕ → List Entry → Type 0
 From n es = Keys (StartsAt n) es
 
-abbrev pub Short : ℕ → List Entry → Type 0
-Short n es = Keys (λ (k : List ℕ). length k ≤ n) es
-
 module _ (P : List ℕ → Type 0) where
-  pub keys-append : (xs ys : List Entry) → Keys P xs → Keys P ys → Keys P (xs ++ ys)
-  keys-append [] ys h k = k
-  keys-append (x ∷ xs) ys h k = (h .0, keys-append xs ys (h .1) k)
-
-  pub keys-left : (xs ys : List Entry) → Keys P (xs ++ ys) → Keys P xs
-  keys-left [] ys h = tt
-  keys-left (x ∷ xs) ys h = (h .0, keys-left xs ys (h .1))
-
-  pub keys-right : (xs ys : List Entry) → Keys P (xs ++ ys) → Keys P ys
-  keys-right [] ys h = h
-  keys-right (x ∷ xs) ys h = keys-right xs ys (h .1)
-
   pub keys-below : (l : List ℕ) → ((k : List ℕ) → P (l ++ k)) → (es : List Entry) → Keys P (under l es)
   keys-below l f [] = tt
   keys-below l f (e ∷ es) = (f (e .key), keys-below l f es)
 
 module _ (P Q : List ℕ → Type 0) where
-  pub keys-map : ((k : List ℕ) → P k → Q k) → (es : List Entry) → Keys P es → Keys Q es
-  keys-map f [] h = tt
-  keys-map f (e ∷ es) h = (f (e .key) (h .0), keys-map f es (h .1))
-
   pub keys-under : (l : List ℕ) → ((k : List ℕ) → P k → Q (l ++ k)) → (es : List Entry) → Keys P es → Keys Q (under l es)
   keys-under l f [] h = tt
   keys-under l f (e ∷ es) h = (f (e .key) (h .0), keys-under l f es (h .1))

@@ -7,15 +7,10 @@ use lib.Dec.{eqb}
 use lib.ListN.{length, drop}
 use borrow.Author.Tests.{eq-eqb, eqb-true}
 use Rattle.octets.specs.Pick.{both}
-use Rattle.octets.specs.Compare.{orderOf}
+use Rattle.octets.specs.Compare.{orderOf, comesBefore}
 use Rattle.octets.proofs.Laws.{by-order}
-use Rattle.radix.specs.Entries.{comesBefore}
 use Rattle.radix.specs.Shape.{startsWith}
-use Rattle.radix.proofs.Sorted.{both-left, both-right, before-less, before-equal, before-greater, before-nil}
-
-pub is-false : (t : Bool) → (t ≡ true → ⊥) → t ≡ false
-is-false true h = absurd (h refl)
-is-false false h = refl
+use Rattle.keys.proofs.Laws.{both-left, both-right, before-less, before-equal, before-greater, before-nil}
 
 pub starts-split : (l k : List ℕ) → startsWith l k ≡ true → k ≡ l ++ drop (length l) k
 unfolding startsWith

@@ -1,26 +1,37 @@
 -- What callers cite of a record and its entries. Assumes nothing.
-use mathlib.Core.Bool.{Bool, true}
-use mathlib.Core.Path.{_≡_, refl, sym, ap, _∙_}
+use mathlib.Core.Bool.{true}
+use mathlib.Core.Path.{_≡_, sym, ap, _∙_}
 use mathlib.Core.List.{List, [], _++_}
-use mathlib.Core.Option.{Option, some, none, Option·some-injective}
+use mathlib.Core.Option.{some, Option·some-injective}
 use Prim.Native.Nat.{ℕ, _+_, _*_, _≤_}
 use native.Mathlib.Omega.{arith}
 use borrow.Author.Tests.{leb-true}
 use lib.Dec.{leb}
 use lib.ListN.{length}
-use Rattle.octets.specs.Maybe.{need, _>>_}
 use Rattle.radix.specs.declared.Index.{Index}
-use Rattle.radix.specs.Entries.{Entry, isMap, rising, allFit}
+use Rattle.keys.specs.Entries.{Entry, isMap, rising, allFit}
 use Rattle.radix.specs.Shape.{Shape, nil, node, shape, nodes, nodeCount}
 use Rattle.radix.specs.Record.{treeOf, isPlaced, heldIn, entriesOf, entries-is}
-use Rattle.radix.specs.Table.{withOwn, gathered}
+use Rattle.radix.specs.Gathering.{withOwn, gathered}
 use Rattle.radix.specs.Layout.{placeShape, recordOf, record-is}
-use Rattle.radix.proofs.Fits.{map-length, map-rising, map-fit}
+use Rattle.keys.proofs.Laws.{map-length, map-rising, map-fit}
 use Rattle.radix.proofs.Bounds.{shape-nodes, count-most}
-use Rattle.radix.proofs.Whole.{need-some, bind-some, shape-gathered, shape-held, held-map}
+use Rattle.radix.proofs.Whole.{need-some, bind-some, shape-held, held-map}
 use Rattle.radix.proofs.Built.{nodes-most}
 use Rattle.radix.proofs.Cells.{Labels}
 use Rattle.radix.proofs.Readback.{shape-placed, shape-tree}
+-- what the walks of radix_walk stand on: keys by their first bytes, labels, the rules of a shape, a step down a tree
+pub use Rattle.radix.proofs.Keys.{From, StartsAt, keys-below, keys-under}
+pub use Rattle.radix.proofs.Under.{under, remainders, entries-before, entries-node, remainders-under}
+pub use Rattle.radix.proofs.Sorted.{before-over, before-under}
+pub use Rattle.radix.proofs.Labels.{after-all, after-keep, before-all, before-keep, starts-append, starts-split}
+pub use Rattle.radix.proofs.Rules.{Rules, Some, canonical-rules, end-held, held-entries, leaf, oneOf, only, rules-from, rules-some, some-under}
+pub use Rattle.radix.proofs.Turns.{Turn, find-below, find-fits, find-next, find-none, find-own, laid-on, leads-on, leads-to, nil-leads, starts-all, starts-next, starts-short, starts-stop, tree-end, tree-nil, tree-node, tree-not, tree-out}
+pub use Rattle.radix.proofs.Back.{shape-back, shape-canonical}
+-- find by a walk is lookup, and the rows of a record's tree
+pub use Rattle.radix.proofs.Lookups.{shape-find}
+pub use Rattle.radix.proofs.Whole.{shape-gathered}
+pub use Rattle.radix.proofs.Listing.{none-listed, root-within}
 
 labels-short : (before : List ℕ) (s : Shape) (old all : List Entry) → gathered before s old ≡ some all → Labels s
 unfolding gathered

@@ -1,29 +1,25 @@
 -- Rows of a table as the entries that `sprout` takes apart. Assumes nothing.
 use mathlib.Core.Bool.{Bool, true, false, true≢false}
 use mathlib.Core.Path.{_≡_, refl, sym, ap, ap₂, _∙_, subst, subst⁻¹}
-use mathlib.Core.List.{List, [], _∷_, _++_}
-use mathlib.Core.Option.{Option, some, none}
-use Prim.Native.Nat.{ℕ, zero, suc, _+_, _*_, _-_, _≤_, _<_, min}
-use native.Mathlib.Nat.{add-zero, add-assoc}
-use native.Mathlib.Numerals.{add-one}
+use mathlib.Core.List.{List, [], _∷_}
+use Prim.Native.Nat.{ℕ, zero, suc, _+_, _*_, _-_, _≤_, _<_}
+use native.Mathlib.Nat.{add-zero}
 use native.Mathlib.Omega.{arith}
 use borrow.Author.Tests.{eq-eqb, ne-eqb, eqb-true, eqb-false, le-ltb}
 use lib.Dec.{eqb}
-use lib.ListN.{length, take, drop, getD, length-take, length-drop}
-use lib.Seq.{drop-drop, drop-cons, take-take}
-use Rattle.octets.specs.Pick.{pick, both}
+use lib.ListN.{length, take, drop, getD, length-drop}
+use lib.Seq.{drop-drop}
+use Rattle.octets.specs.Pick.{pick}
 use Rattle.octets.specs.Place.{area}
 use Rattle.octets.proofs.Laws.{area-cut, length-area}
-use Rattle.octets.specs.Compare.{orderOf}
-use Rattle.radix.specs.Entries.{Entry, entry, comesBefore, rising, allAbove}
+use Rattle.octets.specs.Compare.{orderOf, comesBefore}
+use Rattle.keys.specs.Entries.{Entry, entry, rising}
 use Rattle.radix.specs.Shape.{common, cut, prefixOf, firstByte}
-use Rattle.radix.specs.Record.{lengthOf}
-use Rattle.radix.specs.Table.{Columns, rowAt, rowsFrom}
-use Rattle.radix.specs.Layout.{alike, group, stretch, ownFirst, afterOwn, firstKey}
-use Rattle.radix.specs.Rows.{alikeAt, shareAt, restAt}
-use Rattle.radix.proofs.Keys.{Keys, StartsAt, From}
-use Rattle.radix.proofs.Sorted.{before-le, before-nil, rising-tail}
-use Rattle.radix.proofs.Maps.{above-keys}
+use Rattle.keys.specs.Table.{lengthOf, Columns, rowAt, rowsFrom}
+use Rattle.radix.specs.Layout.{alike}
+use Rattle.radix.specs.Rows.{alikeAt, restAt}
+use Rattle.keys.proofs.Laws.{Keys, before-le, before-nil, rising-tail, above-keys}
+use Rattle.radix.proofs.Keys.{StartsAt, From}
 use Rattle.radix.proofs.Turns.{first-some}
 
 -- the key of a row after its first d bytes

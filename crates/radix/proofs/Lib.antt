@@ -12,11 +12,7 @@ pub mod Labels
 pub mod Lookups
 pub mod Marks
 pub mod Local
-pub mod Rows
 pub mod Gathers
-pub mod Sides
-pub mod Maps
-pub mod Positions
 pub mod Tidy
 pub mod Whole
 pub mod Listing

@@ -1,6 +1,6 @@
 -- The entries of a record, test by test. Assumes nothing.
 use mathlib.Core.Bool.{Bool, true, false}
-use mathlib.Core.Path.{_≡_, refl, sym, ap, ap₂, _∙_}
+use mathlib.Core.Path.{_≡_, refl, sym, _∙_}
 use mathlib.Core.List.{List, []}
 use mathlib.Core.Option.{Option, some, none}
 use Prim.Native.Nat.{ℕ, _≤_, _<_}
@@ -11,11 +11,12 @@ use Rattle.octets.specs.Bytes.{zeros}
 use Rattle.octets.proofs.Laws.{both-true}
 use Rattle.radix.specs.declared.Index.{Index}
 use Rattle.radix.specs.declared.Listed.{Listed}
-use Rattle.radix.specs.Entries.{Entry}
+use Rattle.keys.specs.Entries.{Entry}
 use Rattle.radix.specs.Canon.{rules, canonical}
-use Rattle.radix.specs.Record.{nodesOf, treeAt, treeOf, marksFrom, isRoot, areClean, areFit, marksOf, isPlaced, heldIn, entriesOf, entries-is}
-use Rattle.radix.specs.Table.{Columns, rowsFrom, gathered}
-use Rattle.radix.specs.Answer.{ifSo, tabled, listedOf}
+use Rattle.radix.specs.Record.{nodesOf, treeAt, treeOf, marksFrom, isRoot, areClean, marksOf, isPlaced, heldIn, entriesOf, entries-is}
+use Rattle.keys.specs.Table.{Columns, rowsFrom}
+use Rattle.radix.specs.Gathering.{gathered}
+use Rattle.radix.specs.Answer.{ifSo, listedOf}
 use Rattle.radix.proofs.Whole.{not-canonical, not-gathered, is-gathered}
 
 -- the places; q is the root's, and first its link

@@ -1,19 +1,16 @@
 -- The rules of a shape at the node that a link of a record leads to. Assumes nothing.
 use mathlib.Core.Bool.{Bool, true, false, not}
-use mathlib.Core.Path.{_≡_, refl, sym, ap, ap₂, _∙_}
-use mathlib.Core.List.{List, [], _∷_}
-use mathlib.Core.Option.{Option, some, none}
-use Prim.Native.Nat.{ℕ, zero, suc, _+_, _*_, _-_, _≤_, _<_}
+use mathlib.Core.Path.{_≡_, refl, sym, ap, _∙_}
+use Prim.Native.Nat.{ℕ, _+_, _*_, _-_, _≤_, _<_}
 use native.Mathlib.Omega.{arith}
-use borrow.Author.Tests.{eq-eqb, ne-eqb, le-leb, lt-leb}
-use lib.Dec.{eqb, leb}
+use borrow.Author.Tests.{ne-eqb, le-leb, lt-leb}
 use lib.ListN.{length, getD}
 use Rattle.octets.specs.Pick.{pick, both}
-use Rattle.octets.specs.Maybe.{isNone}
 use Rattle.octets.proofs.Laws.{length-area}
-use Rattle.radix.specs.Shape.{Shape, node, firstByte}
-use Rattle.radix.specs.Canon.{isNil, areSeveral, isEnd, isHeld, isOnly, isOneOf, rules}
-use Rattle.radix.specs.Record.{Nodes, leadsOn, lengthOf, labelOf, valueOf, treeAt, ruleAt}
+use Rattle.radix.specs.Shape.{node, firstByte}
+use Rattle.radix.specs.Canon.{isNil, areSeveral, isOnly, isOneOf, rules}
+use Rattle.radix.specs.Record.{Nodes, leadsOn, labelOf, valueOf, treeAt, ruleAt}
+use Rattle.keys.specs.Table.{lengthOf}
 use Rattle.radix.proofs.Turns.{leads-to, nil-leads, tree-not, tree-node}
 
 not-not : (t : Bool) → not (not t) ≡ t

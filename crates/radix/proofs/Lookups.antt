@@ -11,13 +11,14 @@ use Rattle.octets.specs.Pick.{pick}
 use Rattle.octets.specs.Maybe.{orElse}
 use Rattle.octets.specs.Compare.{same}
 use Rattle.octets.proofs.Laws.{same-true}
-use Rattle.radix.specs.Entries.{Entry, lookup, isMap}
+use Rattle.keys.specs.Entries.{Entry, lookup, isMap}
 use Rattle.radix.specs.Shape.{Shape, nil, node, ownEntry, entriesIn, shape, startsWith}
 use Rattle.radix.specs.Canon.{canonical}
 use Rattle.radix.specs.Walk.{reached, findIn}
 use Rattle.radix.proofs.Under.{under, remainders, entries-node}
-use Rattle.radix.proofs.Keys.{Keys, StartsAt, From, keys-map, keys-below}
-use Rattle.radix.proofs.Labels.{is-false, starts-split, starts-append}
+use Rattle.radix.proofs.Keys.{StartsAt, From, keys-below}
+use Rattle.keys.proofs.Laws.{keys-map, is-false, lookup-append, lookup-none, or-none}
+use Rattle.radix.proofs.Labels.{starts-split, starts-append}
 use Rattle.radix.proofs.Rules.{Rules, leaf, only, oneOf, canonical-rules, canonical-from, rules-from}
 use Rattle.radix.proofs.Back.{shape-back, shape-rules}
 
@@ -34,29 +35,10 @@ unfolding same
 same-over a k [] h = absurd h
 same-over a k (b ∷ x) h = rw (ne-eqb a b (λ e. omega arith))
 
-pub lookup-append : (k : List ℕ) (xs ys : List Entry) → lookup k (xs ++ ys) ≡ orElse (lookup k xs) (lookup k ys)
-unfolding lookup
-lookup-append k [] ys = refl
-lookup-append k (x ∷ xs) ys = go (same k (x .key)) (lookup-append k xs ys)
-  where
-    go : (t : Bool) → lookup k (xs ++ ys) ≡ orElse (lookup k xs) (lookup k ys)
-        → pick t (some (x .value)) (lookup k (xs ++ ys)) ≡ orElse (pick t (some (x .value)) (lookup k xs)) (lookup k ys)
-    go true ih = refl
-    go false ih = ih
-
-pub lookup-none : (k : List ℕ) (es : List Entry) → Keys (λ (x : List ℕ). same k x ≡ false) es → lookup k es ≡ none
-unfolding lookup
-lookup-none k [] h = refl
-lookup-none k (e ∷ es) h = rw (h .0) (lookup-none k es (h .1))
-
 lookup-under : (l k : List ℕ) (es : List Entry) → lookup (l ++ k) (under l es) ≡ lookup k es
 unfolding lookup
 lookup-under l k [] = refl
 lookup-under l k (e ∷ es) = ap₂ (λ (t : Bool) (o : Option ℕ). pick t (some (e .value)) o) (same-under l k (e .key)) (lookup-under l k es)
-
-pub or-none : {A : Type 0} (o : Option A) → orElse o none ≡ o
-or-none none = refl
-or-none (some a) = refl
 
 -- the value at a node, and those below it
 lookup-remainders : (v : Option ℕ) (es : List Entry) → From 0 es → (k : List ℕ) → lookup k (ownEntry [] v ++ es) ≡ reached k v (lookup k es)

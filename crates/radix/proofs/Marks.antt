@@ -1,13 +1,12 @@
 -- The marks of a walk, one node at a time. Assumes nothing.
 use mathlib.Core.Bool.{Bool, true, false}
-use mathlib.Core.Path.{_≡_, refl, sym, ap, ap₂, _∙_}
-use mathlib.Core.List.{List, [], _∷_}
-use mathlib.Core.Option.{Option, some, none}
-use Prim.Native.Nat.{ℕ, zero, suc, _+_, _-_, _≤_, _<_}
+use mathlib.Core.Path.{_≡_, ap, ap₂, _∙_}
+use mathlib.Core.List.{List}
+use mathlib.Core.Option.{some, none}
+use Prim.Native.Nat.{ℕ, zero, suc, _-_, _≤_, _<_}
 use native.Mathlib.Omega.{arith}
-use borrow.Author.Tests.{eq-eqb, ne-eqb, lt-ltb, le-ltb}
-use lib.Dec.{eqb}
-use lib.ListN.{length, getD, set}
+use borrow.Author.Tests.{ne-eqb, lt-ltb, le-ltb}
+use lib.ListN.{getD, set}
 use Rattle.octets.specs.Maybe.{_>>=_}
 use Rattle.radix.specs.Answer.{ifSo}
 use Rattle.radix.specs.Record.{marksFrom}

@@ -1,27 +1,24 @@
 -- What is laid is read back: the tree, the marks of its places, and that each place is as it has to be. Assumes nothing.
 use mathlib.Core.Bool.{Bool, true, false}
-use mathlib.Core.Path.{_≡_, refl, sym, ap, ap₂, _∙_, subst, subst⁻¹}
-use mathlib.Core.List.{List, [], _∷_, _++_}
+use mathlib.Core.Path.{_≡_, refl, sym, ap, ap₂, _∙_, subst}
+use mathlib.Core.List.{List}
 use mathlib.Core.Option.{Option, some, none}
 use Prim.Native.Nat.{ℕ, zero, suc, _+_, _*_, _-_, _≤_, _<_, min}
-use native.Mathlib.Nat.{add-zero, zero-add, suc-add}
+use native.Mathlib.Nat.{zero-add, suc-add}
 use native.Mathlib.Omega.{arith}
-use borrow.Author.Tests.{ltb-true, ltb-false, eq-eqb, ne-eqb, le-leb, lt-ltb, leb-true, leb-false, eqb-true, eqb-false}
-use lib.Dec.{leb, ltb, eqb}
-use lib.ListN.{length, getD, set, take, drop, replicate, length-set, length-replicate, getD-replicate, replicate-append-replicate}
-use lib.Seq.{take-all, getD-set-same, getD-set-other, take-take, take-at, drop-drop, drop-append-le, drop-at}
-use Rattle.octets.specs.Pick.{pick, both}
-use Rattle.octets.specs.Maybe.{need, _>>_, _>>=_}
+use borrow.Author.Tests.{ltb-true, ltb-false, le-leb}
+use lib.Dec.{ltb, eqb}
+use lib.ListN.{length, getD, set, take, drop, length-set, length-replicate, getD-replicate, replicate-append-replicate}
+use lib.Seq.{take-all, getD-set-same, getD-set-other, take-take, take-at, drop-at}
+use Rattle.octets.specs.Pick.{pick}
+use Rattle.octets.specs.Maybe.{_>>=_}
 use Rattle.octets.specs.Bytes.{zeros}
 use Rattle.octets.specs.Place.{area}
-use Rattle.octets.specs.Compare.{allZero}
-use Rattle.octets.proofs.Laws.{zero-all, area-area, area-front}
-use Rattle.radix.specs.declared.Index.{Index}
-use Rattle.radix.specs.Entries.{Entry, isMap}
-use Rattle.radix.specs.Shape.{Shape, nil, node, nodes, shape}
-use Rattle.radix.specs.Record.{Nodes, nodesOf, lengthOf, labelOf, valueOf, treeAt, treeOf, marksFrom, marksOf, isFree, isFlag, isTidy, isPlace, isRoot, areClean, areFit, isPlaced, heldIn, entriesOf, entries-is}
-use Rattle.radix.specs.Table.{gathered}
-use Rattle.radix.specs.Layout.{flagOf, valueOr0, linkTo, laid, blank, placeShape, recordOf, record-is}
+use Rattle.octets.proofs.Laws.{zero-all, area-area}
+use Rattle.radix.specs.Shape.{Shape, nil, node, nodes}
+use Rattle.radix.specs.Record.{Nodes, nodesOf, labelOf, valueOf, treeAt, treeOf, marksFrom, marksOf, isFree, isFlag, isTidy, isPlace, isRoot, areClean, isPlaced}
+use Rattle.keys.specs.Table.{lengthOf}
+use Rattle.radix.specs.Layout.{flagOf, valueOr0, linkTo, laid, blank, placeShape}
 use Rattle.radix.proofs.Turns.{tree-nil, tree-node}
 use Rattle.radix.proofs.Marks.{mark-none, mark-step}
 use Rattle.radix.proofs.Cells.{Long, Same, same-trans, NodeAt, Labels, Stands, stands-same, Laid, laid-all}

@@ -10,12 +10,13 @@ use lib.Dec.{leb}
 use lib.ListN.{length}
 use borrow.Author.Tests.{leb-true, le-leb, eqb-true}
 use Rattle.octets.specs.Pick.{pick, both}
-use Rattle.radix.specs.Entries.{Entry, rising}
+use Rattle.keys.specs.Entries.{Entry, rising}
 use Rattle.radix.specs.Shape.{prefixOf, Shape, nil, node, entriesIn, firstByte}
 use Rattle.radix.specs.Canon.{isNil, isEnd, isHeld, isOnly, isOneOf, rules, canonical}
 use Rattle.radix.proofs.Under.{under, prefix-under, remainders, entries-node}
-use Rattle.radix.proofs.Keys.{From, from-weaken, from-under, keys-append, StartsAt}
-use Rattle.radix.proofs.Sorted.{both-left, both-right, rising-own, rising-join}
+use Rattle.radix.proofs.Keys.{From, from-weaken, from-under, StartsAt}
+use Rattle.keys.proofs.Laws.{keys-append, both-left, both-right}
+use Rattle.radix.proofs.Sorted.{rising-own, rising-join}
 
 pub data Rules : Bool → ℕ → Shape → Type 0 where
   leaf : {first : Bool} {least : ℕ} → Rules first least nil

@@ -5,46 +5,15 @@ use mathlib.Core.List.{List, [], _∷_, _++_}
 use mathlib.Core.Option.{Option, some, none}
 use Prim.Native.Nat.{ℕ, suc, _≤_, _<_}
 use native.Mathlib.Omega.{arith}
-use lib.Dec.{eqb, ltb}
-use borrow.Author.Tests.{eqb-true, eqb-false, eq-eqb, ltb-true, ltb-false}
+use lib.Dec.{eqb}
+use borrow.Author.Tests.{eqb-true, eqb-false, eq-eqb}
 use Rattle.octets.specs.Pick.{both}
-use Rattle.octets.specs.Compare.{orderOf, isLess}
-use Rattle.octets.proofs.Laws.{both-true, first-less, first-equal, first-greater}
-use Rattle.radix.specs.Entries.{Entry, entry, comesBefore, allAbove, rising}
+use Rattle.octets.specs.Compare.{orderOf, comesBefore}
+use Rattle.keys.specs.Entries.{Entry, entry, allAbove, rising}
 use Rattle.radix.specs.Shape.{own, longer, ownEntry, startingWith, notStartingWith}
 use Rattle.radix.proofs.Under.{under}
-use Rattle.radix.proofs.Keys.{Keys, StartsAt, From, keys-map, longer-from, own-from, starting-none, others-all}
-
-pub both-left : (a b : Bool) → both a b ≡ true → a ≡ true
-both-left a b h = both-true a b h .0
-
-pub both-right : (a b : Bool) → both a b ≡ true → b ≡ true
-both-right a b h = both-true a b h .1
-
-module _ (x y : ℕ) (a b : List ℕ) where
-  pub before-less : x < y → comesBefore (x ∷ a) (y ∷ b) ≡ true
-  unfolding orderOf
-  before-less h = ap isLess (first-less x y (orderOf a b) h)
-
-  pub before-equal : x ≡ y → comesBefore (x ∷ a) (y ∷ b) ≡ comesBefore a b
-  unfolding orderOf
-  before-equal h = ap isLess (first-equal x y (orderOf a b) h)
-
-  pub before-greater : y < x → comesBefore (x ∷ a) (y ∷ b) ≡ false
-  unfolding orderOf
-  before-greater h = ap isLess (first-greater x y (orderOf a b) h)
-
-pub before-le : (x y : ℕ) (a b : List ℕ) → comesBefore (x ∷ a) (y ∷ b) ≡ true → x ≤ y
-before-le x y a b h = go (ltb y x) refl
-  where
-    go : (t : Bool) → ltb y x ≡ t → x ≤ y
-    go true e = absurd (true≢false (sym h ∙ before-greater x y a b (ltb-true y x e)))
-    go false e = ltb-false y x e
-
-pub before-nil : (a : List ℕ) → comesBefore a [] ≡ false
-unfolding orderOf
-before-nil [] = refl
-before-nil (x ∷ a) = refl
+use Rattle.radix.proofs.Keys.{StartsAt, From, longer-from, own-from, starting-none, others-all}
+use Rattle.keys.proofs.Laws.{keys-map, above-rising, before-equal, before-le, before-less, before-nil, both-left, both-right}
 
 pub before-under : (l a b : List ℕ) → comesBefore (l ++ a) (l ++ b) ≡ comesBefore a b
 before-under [] a b = refl
@@ -59,27 +28,6 @@ pub rising-under : (l : List ℕ) (es : List Entry) → rising (under l es) ≡ 
 unfolding rising
 rising-under l [] = refl
 rising-under l (e ∷ es) = above-under l (e .key) es
-
-pub rising-tail : (k : List ℕ) (es : List Entry) → allAbove k es ≡ true → rising es ≡ true
-unfolding rising allAbove
-rising-tail k [] h = refl
-rising-tail k (e ∷ es) h = both-right (comesBefore k (e .key)) (allAbove (e .key) es) h
-
-above-left : (k : List ℕ) (xs ys : List Entry) → allAbove k (xs ++ ys) ≡ true → allAbove k xs ≡ true
-unfolding allAbove
-above-left k [] ys h = refl
-above-left k (x ∷ xs) ys h =
-    ap₂ both (both-left (comesBefore k (x .key)) _ h) (above-left (x .key) xs ys (both-right (comesBefore k (x .key)) _ h))
-
-pub rising-left : (xs ys : List Entry) → rising (xs ++ ys) ≡ true → rising xs ≡ true
-unfolding rising
-rising-left [] ys h = refl
-rising-left (x ∷ xs) ys h = above-left (x .key) xs ys h
-
-pub rising-right : (xs ys : List Entry) → rising (xs ++ ys) ≡ true → rising ys ≡ true
-unfolding rising
-rising-right [] ys h = h
-rising-right (x ∷ xs) ys h = rising-right xs ys (rising-tail (x .key) (xs ++ ys) h)
 
 -- above a key there is no empty one, and no smaller first byte
 starts-above : (n : ℕ) (k x : List ℕ) → StartsAt n k → comesBefore k x ≡ true → StartsAt n x
@@ -167,12 +115,6 @@ part b k (e ∷ es) p h =
     go : (x : List ℕ) (v : ℕ) → StartsAt b x → allAbove x es ≡ true → Parted b es → Parted b (entry x v ∷ es)
     go [] v q a w = absurd q
     go (c ∷ x) v q a w = by-first c x v (eqb b c) refl q a w
-
--- a key in front of rising entries that it comes before
-pub above-rising : (k : List ℕ) (es : List Entry) → Keys (λ (x : List ℕ). comesBefore k x ≡ true) es → rising es ≡ true → allAbove k es ≡ true
-unfolding rising allAbove
-above-rising k [] h r = refl
-above-rising k (e ∷ es) h r = ap₂ both (h .0) r
 
 pub before-over : (a : ℕ) (l k : List ℕ) → StartsAt (suc a) k → comesBefore (a ∷ l) k ≡ true
 before-over a l [] h = absurd h

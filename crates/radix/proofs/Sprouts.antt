@@ -1,24 +1,23 @@
 -- What `sprout` makes of rising entries is their shape. Assumes nothing.
-use mathlib.Core.Bool.{Bool, true, false, not}
+use mathlib.Core.Bool.{Bool, true, false}
 use mathlib.Core.Path.{_≡_, refl, sym, ap, ap₂, _∙_, subst, subst⁻¹}
-use mathlib.Core.List.{List, [], _∷_, _++_, append-nil}
-use mathlib.Core.Option.{Option, some, none}
+use mathlib.Core.List.{List, [], _∷_, _++_}
 use Prim.Native.Nat.{ℕ, zero, suc, _+_, _-_, _≤_, _<_}
 use native.Mathlib.Omega.{arith}
-use borrow.Author.Tests.{eq-eqb, eqb-true, eqb-false}
+use borrow.Author.Tests.{eqb-true, eqb-false}
 use lib.Dec.{eqb}
 use lib.ListN.{length, take, drop, length-append}
 use Rattle.octets.specs.Pick.{pick, both}
-use Rattle.radix.specs.Entries.{Entry, entry, rising, isMap}
-use Rattle.radix.specs.Shape.{Shape, nil, node, nodes, prefixOf, cut, ownEntry, entriesIn, shape}
-use Rattle.radix.specs.Canon.{isNil, canonical}
-use Rattle.radix.specs.Layout.{group, stretch, ownFirst, afterOwn, firstKey, sproutNode, sproutAll, sprout}
+use Rattle.keys.specs.Entries.{Entry, rising, isMap}
+use Rattle.radix.specs.Shape.{Shape, nil, node, prefixOf, ownEntry, entriesIn, shape}
+use Rattle.radix.specs.Canon.{isNil}
+use Rattle.radix.specs.Layout.{group, stretch, ownFirst, afterOwn, sproutNode, sprout}
 use Rattle.radix.proofs.Under.{under, remainders, entries-node, prefix-cut}
-use Rattle.radix.proofs.Keys.{StartsAt, From, Short, keys-left, keys-right, short-under, from-weaken}
-use Rattle.radix.proofs.Sorted.{rising-right}
-use Rattle.radix.proofs.Fits.{map-rising, map-length, map-fit, fit-from, fit-short}
-use Rattle.radix.proofs.Rules.{Rules, leaf, only, oneOf, Some, some-held, rules-canonical}
-use Rattle.radix.proofs.Back.{Good, prefix-end, past-prefix, shape-canonical, shape-back}
+use Rattle.radix.proofs.Keys.{StartsAt, From, short-under}
+use Rattle.keys.proofs.Laws.{Short, keys-left, keys-right, rising-right, map-rising, map-length, map-fit}
+use Rattle.radix.proofs.Fits.{fit-from, fit-short}
+use Rattle.radix.proofs.Rules.{leaf, only, oneOf, Some, some-held, rules-canonical}
+use Rattle.radix.proofs.Back.{Good, prefix-end, past-prefix}
 use Rattle.radix.proofs.Unique.{shape-of-canonical}
 use Rattle.radix.proofs.Branches.{Grouped, grouped, group-take, group-drop, group-sum, group-some, Branch, by-byte, by-prefix, branch-rest, branch-label, own-after, after-from, after-rising, after-short, after-length, under-length, none-left, some-of}
 

@@ -4,10 +4,9 @@ use mathlib.Core.Path.{_≡_, refl, sym, ap, ap₂, _∙_}
 use mathlib.Core.List.{List, [], _∷_, _++_}
 use mathlib.Core.Option.{Option, some, none}
 use Prim.Native.Nat.{ℕ, zero, suc, _+_, _*_, _-_, _≤_, _<_}
-use native.Mathlib.Numerals.{add-one}
 use native.Mathlib.Omega.{arith}
 use borrow.Author.Tests.{eq-eqb, ne-eqb, lt-ltb, le-ltb, le-leb, ltb-true, leb-true, leb-false}
-use lib.Dec.{eqb, ltb, leb}
+use lib.Dec.{eqb, ltb}
 use lib.ListN.{length, take, drop, getD, drop-of-length-le, length-drop}
 use lib.Seq.{drop-cons, drop-drop}
 use Rattle.octets.specs.Pick.{pick}
@@ -15,7 +14,8 @@ use Rattle.octets.specs.Place.{area, put}
 use Rattle.octets.proofs.Laws.{length-area, both-true, take-put-end}
 use Rattle.radix.specs.Shape.{Shape, nil, node, firstByte, startsWith}
 use Rattle.radix.specs.Canon.{isNil}
-use Rattle.radix.specs.Record.{Nodes, leadsOn, lengthOf, labelOf, valueOf, treeAt}
+use Rattle.radix.specs.Record.{Nodes, leadsOn, labelOf, valueOf, treeAt}
+use Rattle.keys.specs.Table.{lengthOf}
 use Rattle.radix.specs.Walk.{reached, findIn}
 
 -- a label beside what is left of a key

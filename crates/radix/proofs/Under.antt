@@ -9,7 +9,7 @@ use lib.ListN.{length}
 use lib.Seq.{drop-append-seam}
 use borrow.Author.Tests.{eq-eqb, eqb-true}
 use Rattle.octets.specs.Pick.{pick}
-use Rattle.radix.specs.Entries.{Entry, entry}
+use Rattle.keys.specs.Entries.{Entry, entry}
 use Rattle.radix.specs.Shape.{Shape, nil, node, ownEntry, entriesIn, cut, common, prefixOf}
 
 abbrev pub under : List ℕ → List Entry → List Entry

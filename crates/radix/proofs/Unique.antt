@@ -8,12 +8,13 @@ use native.Mathlib.Omega.{arith}
 use lib.ListN.{length}
 use borrow.Author.Tests.{eq-eqb}
 use Rattle.octets.specs.Pick.{pick, both}
-use Rattle.radix.specs.Entries.{Entry, entry, rising, allFit, isMap}
+use Rattle.keys.specs.Entries.{Entry, entry, rising, allFit, isMap}
 use Rattle.radix.specs.Shape.{Shape, nil, node, own, longer, ownEntry, common, prefixOf, cut, entriesIn, firstByte, startingWith, notStartingWith, childrenOf, shape}
 use Rattle.radix.specs.Canon.{isNil, isEnd, isHeld, canonical}
 use Rattle.radix.proofs.Under.{under, remainders, entries-node, entries-only, cut-under, prefix-cut}
-use Rattle.radix.proofs.Keys.{Keys, From, Short, StartsAt, keys-right, keys-below, longer-from, own-from, starting-none, others-all}
-use Rattle.radix.proofs.Fits.{is-map, fit-short}
+use Rattle.keys.proofs.Laws.{Keys, Short, keys-right, is-map}
+use Rattle.radix.proofs.Keys.{From, StartsAt, keys-below, longer-from, own-from, starting-none, others-all}
+use Rattle.radix.proofs.Fits.{fit-short}
 use Rattle.radix.proofs.Back.{children-good, shape-back, shape-canonical}
 use Rattle.radix.proofs.Rules.{Rules, leaf, only, oneOf, Some, canonical-rules, canonical-from, rules-from, rules-rising, rules-some, end-held, held-entries, prefix-some}
 

@@ -3,23 +3,24 @@ use mathlib.Core.Bool.{Bool, true, false, true≢false}
 use mathlib.Core.Path.{_≡_, refl, sym, ap, ap₂, _∙_, subst, subst⁻¹}
 use mathlib.Core.List.{List, [], _∷_, _++_, append-assoc, append-nil}
 use mathlib.Core.Option.{Option, some, none}
-use Prim.Native.Nat.{ℕ, zero, suc, _+_, _≤_, _<_, _^_}
+use Prim.Native.Nat.{ℕ, suc, _+_, _≤_, _<_, _^_}
 use native.Mathlib.Omega.{arith}
 use borrow.Author.Tests.{eq-eqb, eqb-true, lt-ltb, le-leb, ltb-true, leb-true}
 use lib.Dec.{leb, ltb}
 use lib.ListN.{length, length-append}
-use Rattle.octets.specs.Pick.{pick, both}
+use Rattle.octets.specs.Pick.{both}
 use Rattle.octets.specs.Maybe.{need, _>>_, _>>=_}
 use Rattle.octets.specs.Compare.{same}
 use Rattle.octets.proofs.Laws.{both-true, same-refl, same-true}
-use Rattle.radix.specs.Entries.{Entry, entry, isKey, rising, allFit, isMap}
+use Rattle.keys.specs.Entries.{Entry, entry, isKey, allFit, isMap}
 use Rattle.radix.specs.Shape.{Shape, nil, node, ownEntry, entriesIn, shape}
 use Rattle.radix.specs.Canon.{canonical}
 use Rattle.radix.specs.Record.{sameValue, sameShape, heldIn}
-use Rattle.radix.specs.Table.{withOwn, gathered}
+use Rattle.radix.specs.Gathering.{withOwn, gathered}
 use Rattle.radix.proofs.Under.{under, remainders, remainders-under}
-use Rattle.radix.proofs.Keys.{Keys, StartsAt, From, Short, keys-append, keys-left, keys-right}
-use Rattle.radix.proofs.Fits.{is-map, map-length, map-fit, fit-head, fit-tail, fit-short}
+use Rattle.radix.proofs.Keys.{StartsAt, From}
+use Rattle.keys.proofs.Laws.{Short, keys-append, keys-left, keys-right, is-map, map-length, map-fit}
+use Rattle.radix.proofs.Fits.{fit-short}
 use Rattle.radix.proofs.Rules.{Rules, leaf, only, oneOf, Some, end-held, held-entries, canonical-rules}
 use Rattle.radix.proofs.Unique.{canonical-rising, canonical-keys, shape-of-fitting}
 use Rattle.radix.proofs.Back.{shape-back, shape-rules, shape-canonical}

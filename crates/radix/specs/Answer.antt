@@ -5,11 +5,10 @@ use mathlib.Core.Path.{_≡_}
 use Prim.Native.Nat.{ℕ, _≤_}
 use lib.ListN.{length}
 use mathlib.Core.List.{List}
-use Rattle.radix.specs.Entries.{Entry}
-use Rattle.radix.specs.Table.{Columns, columns, rowsFrom}
+use Rattle.keys.specs.Entries.{Entry}
+use Rattle.keys.specs.Table.{Columns, rowsFrom, tabled}
 use Rattle.radix.specs.declared.Found.{Found}
 use Rattle.radix.specs.declared.Found.the-variants.{Value, Nothing}
-use Rattle.radix.specs.declared.Table.{Table}
 use Rattle.radix.specs.declared.Listed.{Listed}
 use Rattle.radix.specs.declared.Gathered.{Gathered}
 use Rattle.radix.specs.declared.Gathered.the-variants.{Rows, TooMany}
@@ -38,9 +37,6 @@ pub record Room (n : ℕ) (len val key : List ℕ) : Type 0 where
 abbrev pub Within : Gathered → Type 0
 Within TooMany = Unit
 Within (Rows n) = n ≤ 64
-
-abbrev pub tabled : Table → List Entry
-tabled t = rowsFrom (columns (t .len) (t .val) (t .key)) 0 (t .n)
 
 -- what a record was found to hold
 abbrev pub listedOf : Listed → Option (List Entry)

@@ -2,15 +2,15 @@
 -- place. {foo: 7, foobar: 9}: bar at 1, foo at 2, and the root at 0 (the drawing of Record). Assumes nothing.
 use mathlib.Core.Bool.{Bool, true, false}
 use mathlib.Core.Path.{_≡_, refl}
-use mathlib.Core.List.{List, [], _∷_, _++_}
+use mathlib.Core.List.{List, [], _∷_}
 use mathlib.Core.Option.{Option, some, none}
 use Prim.Native.Nat.{ℕ, zero, suc, _+_, _*_}
 use lib.Dec.{eqb}
-use lib.ListN.{length, getD, set, take, drop}
+use lib.ListN.{length, set, take, drop}
 use Rattle.octets.specs.Pick.{pick, both}
 use Rattle.octets.specs.Bytes.{zeros}
 use Rattle.octets.specs.Place.{put}
-use Rattle.radix.specs.Entries.{Entry, entry}
+use Rattle.keys.specs.Entries.{Entry}
 use Rattle.radix.specs.Shape.{Shape, nil, node, nodes, prefixOf, cut, firstByte, shape}
 use Rattle.radix.specs.Record.{Nodes}
 use Rattle.radix.specs.declared.Index.{Index}

@@ -19,20 +19,21 @@
 -- Assumes nothing.
 use mathlib.Core.Bool.{Bool, true, false}
 use mathlib.Core.Path.{_≡_, refl}
-use mathlib.Core.List.{List, [], _∷_, _++_}
+use mathlib.Core.List.{List, []}
 use mathlib.Core.Option.{Option, some, none}
-use Prim.Native.Nat.{ℕ, zero, suc, _+_, _*_, _-_, min}
+use Prim.Native.Nat.{ℕ, zero, suc, _+_, _*_, _-_}
 use lib.Dec.{leb, ltb, eqb}
-use lib.ListN.{length, getD, set}
+use lib.ListN.{getD, set}
 use Rattle.octets.specs.Pick.{pick, both}
 use Rattle.octets.specs.Maybe.{need, _>>_, _>>=_}
 use Rattle.octets.specs.Bytes.{zeros}
 use Rattle.octets.specs.Place.{area}
 use Rattle.octets.specs.Compare.{allZero, same}
-use Rattle.radix.specs.Entries.{Entry, isMap}
+use Rattle.keys.specs.Entries.{Entry, isMap}
 use Rattle.radix.specs.Shape.{Shape, nil, node, entriesIn, shape}
 use Rattle.radix.specs.Canon.{isNil, isOnly, isOneOf}
 use Rattle.radix.specs.declared.Index.{Index}
+use Rattle.keys.specs.Table.{lengthOf}
 
 -- the pool, without the root's place
 pub record Nodes : Type 0 where
@@ -50,10 +51,6 @@ nodesOf x = record { len = x .len; key = x .key; child = x .child; next = x .nex
 abbrev pub lent : List ℕ → List ℕ → List ℕ → List ℕ → List ℕ → List ℕ → Nodes
 lent len key child next val label =
     record { len = len; key = key; child = child; next = next; val = val; label = label }
-
--- a label has at most 16 bytes
-abbrev pub lengthOf : List ℕ → ℕ → ℕ
-lengthOf len p = min (getD len p 0) 16
 
 abbrev pub labelOf : Nodes → ℕ → List ℕ
 labelOf x p = area (16 * p) (lengthOf (x .len) p) (x .label)

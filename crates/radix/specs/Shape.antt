@@ -16,7 +16,7 @@ use Prim.Native.Nat.{ℕ, zero, suc, _+_}
 use lib.Dec.{leb, eqb}
 use lib.ListN.{length, drop}
 use Rattle.octets.specs.Pick.{pick, both}
-use Rattle.radix.specs.Entries.{Entry, entry}
+use Rattle.keys.specs.Entries.{Entry, entry}
 
 -- the children of a node, in order
 pub data Shape : Type 0 where

@@ -7,7 +7,8 @@ use Prim.Native.Nat.{ℕ}
 use lib.ListN.{length, drop}
 use Rattle.octets.specs.Pick.{pick}
 use Rattle.octets.specs.Maybe.{orElse}
-use Rattle.radix.specs.Entries.{Entry, entry, comesBefore}
+use Rattle.keys.specs.Entries.{Entry, entry}
+use Rattle.octets.specs.Compare.{comesBefore}
 use Rattle.radix.specs.Shape.{Shape, nil, node, startsWith}
 use Rattle.radix.specs.Canon.{isNil}
 

@@ -7,29 +7,16 @@ ghost use lib.Dec.{eqb};
 ghost use lib.ListN.{length, getD};
 ghost use Rattle.octets.specs.Pick.{pick, both};
 ghost use Rattle.octets.specs.Place.{area};
-ghost use Rattle.radix.specs.Shape.{common};
-ghost use Rattle.radix.specs.Record.{lengthOf, lent};
-ghost use Rattle.radix.specs.Shape.{nodes};
-ghost use Rattle.radix.specs.Table.{columns};
-ghost use Rattle.radix.specs.Layout.{withCell, sprout, laid};
+ghost use Rattle.radix.specs.Shape.{common, nodes};
+ghost use Rattle.keys.specs.Table.{lengthOf, columns, tabled};
+ghost use Rattle.radix.specs.Record.{lent};
+ghost use Rattle.radix.specs.Layout.{withCell, sprout, laid, recordOf};
 ghost use Rattle.radix.specs.Rows.{alikeAt, shareAt, restAt, Ready};
-ghost use Rattle.radix.specs.Entries.{isMap};
-ghost use Rattle.radix.specs.Layout.{recordOf};
-ghost use Rattle.radix.specs.Answer.{tabled};
+ghost use Rattle.keys.specs.Entries.{isMap};
 use crate::Index;
-use crate::Table;
 use crate::pool::wide;
-
-pub fn row_len(len: &[u8; 64], i: usize) -> usize
-    requires { ⌜ i < 64 ⌝ }
-    ensures { λ r. ⌜ (r ≡ lengthOf (now (len .entry)) i) × (r ≤ 16) ⌝ }
-{
-    let n = wide(len[i]);
-    if 16 < n {
-        return 16;
-    }
-    n
-}
+use keys::Table;
+use keys::row_len;
 
 // How many bytes from p and from q on are the same, of m and k bytes.
 fn shared(key: &[u8], p: usize, m: usize, q: usize, k: usize) -> usize

@@ -8,8 +8,8 @@ mod pool;
 mod validation;
 
 pub use construction::build;
-pub use construction::row_len;
 pub use judge::leads;
+use keys::Table;
 pub use pool::byte_at;
 pub use pool::label_len;
 pub use pool::link_at;
@@ -39,14 +39,6 @@ pub enum Found {
 pub enum Gathered {
     Rows(usize),
     TooMany,
-}
-
-// Entries in order: n rows, the key of row i at 16 i.
-pub struct Table {
-    pub n: usize,
-    pub len: [u8; 64],
-    pub val: [u32; 64],
-    pub key: [u8; 1024],
 }
 
 // The entries of a record, where ok says that it holds any.

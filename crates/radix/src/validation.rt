@@ -5,13 +5,12 @@ ghost use mathlib.Core.Bool.{false};
 ghost use mathlib.Core.List.{List, []};
 ghost use Prim.Native.Nat.{ℕ, _<_};
 ghost use lib.ListN.{getD};
-ghost use Rattle.radix.specs.Record.{nodesOf, lent, isRoot, isPlaced, treeOf, entriesOf};
-ghost use Rattle.radix.specs.Table.{gathered};
+ghost use Rattle.radix.specs.Record.{lent, isRoot, isPlaced, treeOf, entriesOf};
+ghost use Rattle.radix.specs.Gathering.{gathered};
 ghost use Rattle.radix.specs.Answer.{listedOf};
 use crate::Gathered;
 use crate::Index;
 use crate::Listed;
-use crate::Table;
 use crate::gather::gather;
 use crate::judge::clean;
 use crate::judge::keeps;
@@ -19,6 +18,7 @@ use crate::judge::mark;
 use crate::pool::byte_at;
 use crate::pool::link_at;
 use crate::pool::wide_link;
+use keys::Table;
 
 // The root's place: no label, no key, no sibling.
 fn root_at<'a>(len: &'a [u8; 256], key: &'a [u8; 256], next: &'a [u16; 256], p: usize) -> bool

@@ -2,15 +2,13 @@
 use mathlib.Core.Path.{_≡_, refl, sym, ap, ap₂, _∙_, subst⁻¹}
 use mathlib.Core.List.{List, [], _∷_, _++_, append-assoc}
 use Prim.Native.Nat.{ℕ, zero, suc, _+_, _*_, _-_, _^_, _<_, _≤_}
-use native.Mathlib.Nat.{add-zero, add-assoc, zero-add}
-use native.Mathlib.Numerals.{add-one}
+use native.Mathlib.Nat.{add-assoc}
 use native.Mathlib.Omega.{arith}
 use lib.ListN.{length, drop, getD, set, length-append, drop-of-length-le}
-use lib.Seq.{drop-cons}
 use Rattle.octets.specs.Bytes.{Bytes, le, leValue}
 use Rattle.octets.specs.Place.{area, put}
-use Rattle.octets.proofs.Laws.{length-le, value-le, le-value, value-le-lt, length-area, bytes-area, bytes-nil, bytes-append, bytes-le, area-add, area-none, area-left, area-append-right, put-append, put-none, put-all, length-put}
 use Rattle.octets.proofs.Put.{put-first}
+use Rattle.octets.proofs.Laws.{cut, length-le, value-le, le-value, value-le-lt, length-area, bytes-area, bytes-nil, bytes-append, bytes-le, area-add, area-none, area-left, area-append-right, put-append, put-none, put-all, length-put}
 use Rattle.radix_bytes.specs.Bytes.{wordBytes, wordsAt, Fit}
 
 pub length-words : (w : ℕ) (vs : List ℕ) → length (wordBytes w vs) ≡ w * length vs
@@ -67,9 +65,6 @@ pub bytes-words : (w : ℕ) (vs : List ℕ) → Bytes (wordBytes w vs)
 unfolding wordBytes
 bytes-words w [] = bytes-nil
 bytes-words w (v ∷ vs) = bytes-append (bytes-le w v) (bytes-words w vs)
-
-pub cut : (s : List ℕ) (i : ℕ) → i < length s → drop i s ≡ getD s i 0 ∷ drop (i + 1) s
-cut s i h = rw (add-one i, drop-cons s i 0 h)
 
 -- a loop that reads n numbers: what is left is to put the rest of them
 module _ (w : ℕ) (s : List ℕ) (at n : ℕ) where

@@ -6,18 +6,13 @@ use Prim.Native.Nat.{ℕ, _≤_, _<_}
 use native.Mathlib.Omega.{arith}
 use lib.ListN.{length, take, drop, take-append-drop, length-drop, drop-of-length-le}
 use lib.Seq.{take-at}
-use Rattle.octets.specs.Compare.{orderOf, isLess}
+use Rattle.octets.specs.Compare.{orderOf, isLess, comesBefore}
 use Rattle.octets.specs.declared.Order.{Order}
 use Rattle.octets.specs.declared.Order.the-variants.{Less, Equal, Greater}
 use Rattle.octets.proofs.Laws.{mirror, by-order, first-less, first-equal, order-equal}
-use Rattle.radix.specs.Entries.{comesBefore}
 use Rattle.radix.specs.Shape.{startsWith}
-use Rattle.radix.proofs.Sorted.{before-less, before-equal, before-nil, before-under}
-use Rattle.radix.proofs.Labels.{is-false, starts-split, starts-append, before-keep, after-all}
-use Rattle.radix.proofs.Sides.{before-self, before-trans}
-
-pub before-once : (a b : List ℕ) → comesBefore a b ≡ true → comesBefore b a ≡ false
-before-once a b h = is-false (comesBefore b a) (λ g. true≢false (sym (before-trans a b a h g) ∙ before-self a))
+use Rattle.keys.proofs.Laws.{before-less, before-equal, before-nil, is-false, before-self, before-once}
+use Rattle.radix.proofs.Laws.{before-under, starts-split, starts-append, before-keep, after-all}
 
 -- the label comes before the key, which does not start with it
 module _ (l k : List ℕ) (e : orderOf l (take (length l) k) ≡ Less) where

@@ -8,17 +8,13 @@ use lib.ListN.{length, drop}
 use borrow.Author.Tests.{not-true}
 use Rattle.octets.specs.Pick.{pick}
 use Rattle.octets.specs.Maybe.{orElse}
-use Rattle.radix.specs.Entries.{Entry, comesBefore, firstFrom, isMap}
+use Rattle.keys.specs.Entries.{Entry, firstFrom, isMap}
+use Rattle.octets.specs.Compare.{comesBefore}
 use Rattle.radix.specs.Shape.{Shape, nil, node, ownEntry, entriesIn, shape, startsWith}
 use Rattle.radix.specs.Canon.{isNil, isHeld, canonical}
 use Rattle.radix.specs.Walk.{leastIn, leastOr, seekFirst, firstIn}
-use Rattle.radix.proofs.Under.{under, remainders, entries-node, entries-before}
-use Rattle.radix.proofs.Keys.{Keys, StartsAt, From, keys-under, keys-below}
-use Rattle.radix.proofs.Sorted.{before-under, before-greater}
-use Rattle.radix.proofs.Labels.{starts-split, before-keep, before-all}
-use Rattle.radix.proofs.Rules.{Rules, leaf, only, oneOf, Some, some-under, rules-some, rules-from, end-held, held-entries, canonical-rules}
-use Rattle.radix.proofs.Lookups.{or-none}
-use Rattle.radix.proofs.Back.{shape-back, shape-canonical}
+use Rattle.radix.proofs.Laws.{under, remainders, entries-node, entries-before, StartsAt, From, keys-under, keys-below, before-under, starts-split, before-keep, before-all, Rules, leaf, only, oneOf, Some, some-under, rules-some, rules-from, end-held, held-entries, canonical-rules, shape-back, shape-canonical}
+use Rattle.keys.proofs.Laws.{Keys, before-greater, or-none}
 
 pub or-assoc : {A : Type 0} (a b c : Option A) → orElse (orElse a b) c ≡ orElse a (orElse b c)
 or-assoc none b c = refl

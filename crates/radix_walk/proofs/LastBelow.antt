@@ -8,17 +8,13 @@ use lib.ListN.{length, drop}
 use borrow.Author.Tests.{not-true}
 use Rattle.octets.specs.Pick.{pick}
 use Rattle.octets.specs.Maybe.{orElse}
-use Rattle.radix.specs.Entries.{Entry, comesBefore, lastUpTo, isMap}
+use Rattle.keys.specs.Entries.{Entry, lastUpTo, isMap}
+use Rattle.octets.specs.Compare.{comesBefore}
 use Rattle.radix.specs.Shape.{Shape, nil, node, ownEntry, entriesIn, shape, startsWith}
 use Rattle.radix.specs.Canon.{isNil, isHeld, canonical}
 use Rattle.radix.specs.Walk.{ownOf, greatestIn, seekLast, lastIn}
-use Rattle.radix.proofs.Under.{under, remainders, entries-node, entries-before, remainders-under}
-use Rattle.radix.proofs.Keys.{Keys, StartsAt, From, keys-under, keys-below}
-use Rattle.radix.proofs.Sorted.{before-under, before-over}
-use Rattle.radix.proofs.Labels.{starts-split, after-all, after-keep}
-use Rattle.radix.proofs.Rules.{Rules, leaf, only, oneOf, Some, some-under, rules-from, end-held, held-entries, canonical-rules}
-use Rattle.radix.proofs.Back.{shape-back, shape-canonical}
-use Rattle.radix.proofs.Lookups.{or-none}
+use Rattle.radix.proofs.Laws.{under, remainders, entries-node, entries-before, remainders-under, StartsAt, From, keys-under, keys-below, before-under, before-over, starts-split, after-all, after-keep, Rules, leaf, only, oneOf, Some, some-under, rules-from, end-held, held-entries, canonical-rules, shape-back, shape-canonical}
+use Rattle.keys.proofs.Laws.{Keys, or-none}
 use Rattle.radix_walk.proofs.FirstAbove.{or-assoc, some-at, own-keys}
 
 -- the last entry, or what stands before

@@ -5,4 +5,4 @@ pub mod Stops
 pub mod FirstAbove
 pub mod LastBelow
 pub mod Uncut
-pub mod Nearest
+pub mod Laws

@@ -12,13 +12,14 @@ use lib.Seq.{take-take, take-all, take-append-add, drop-at, length-take-le}
 use Rattle.octets.specs.Bytes.{zeros}
 use Rattle.octets.specs.Place.{area, put}
 use Rattle.octets.proofs.Laws.{by-order, area-front}
-use Rattle.radix.specs.Entries.{entry}
+use Rattle.keys.specs.Entries.{entry}
 use Rattle.radix.specs.Shape.{Shape, nil, node}
-use Rattle.radix.specs.Record.{Nodes, leadsOn, lengthOf, labelOf, valueOf, treeAt}
+use Rattle.radix.specs.Record.{Nodes, leadsOn, labelOf, valueOf, treeAt}
+use Rattle.keys.specs.Table.{lengthOf}
 use Rattle.radix.specs.Walk.{ownOf, leastIn, greatestIn}
 use Rattle.radix_walk.specs.Neighbours.{padded, nearAt, nearOf, cutKey, alone, leastFrom, greatestFrom}
 use Rattle.radix_walk.specs.declared.near.Stop.{Stop}
-use Rattle.radix.proofs.Turns.{leads-to, tree-node, tree-not, nil-leads}
+use Rattle.radix.proofs.Laws.{leads-to, tree-node, tree-not, nil-leads}
 
 -- the node that a link leads to
 pub node-on : (x : Nodes) (left link : ℕ) → leadsOn left link ≡ true → treeAt left x link ≡ node (labelOf x (link - 1)) (valueOf x (link - 1)) (treeAt (left - 1) x (getD (x .child) (link - 1) 0)) (treeAt (left - 1) x (getD (x .next) (link - 1) 0))

@@ -15,12 +15,13 @@ use Rattle.octets.specs.Compare.{orderOf}
 use Rattle.octets.specs.declared.Order.{Order}
 use Rattle.octets.specs.declared.Order.the-variants.{Less, Equal, Greater}
 use Rattle.octets.proofs.Laws.{length-area, part-area}
-use Rattle.radix.specs.Entries.{Entry}
-use Rattle.radix.specs.Record.{Nodes, leadsOn, lengthOf, labelOf, valueOf, treeAt}
+use Rattle.keys.specs.Entries.{Entry}
+use Rattle.radix.specs.Record.{Nodes, leadsOn, labelOf, valueOf, treeAt}
+use Rattle.keys.specs.Table.{lengthOf}
 use Rattle.radix.specs.Walk.{ownOf, leastIn, leastOr, seekFirst, firstIn, greatestIn, seekLast, lastIn}
 use Rattle.radix_walk.specs.Neighbours.{stopAt, leastFrom, greatestFrom}
 use Rattle.radix_walk.specs.declared.near.Stop.{Stop}
-use Rattle.radix.proofs.Turns.{leads-on, leads-to, tree-not, tree-end}
+use Rattle.radix.proofs.Laws.{leads-on, leads-to, tree-not, tree-end}
 use Rattle.radix_walk.proofs.Paths.{node-on}
 use Rattle.radix_walk.proofs.Beside.{less-before, less-starts, less-not, greater-before, greater-not, equal-is, equal-starts, equal-not, equal-whole, equal-more}
 

@@ -7,11 +7,12 @@ use Prim.Native.Nat.{ℕ}
 use lib.Seq.{take-all}
 use Rattle.octets.specs.Pick.{pick}
 use Rattle.octets.specs.Maybe.{orElse}
-use Rattle.radix.specs.Entries.{Entry, entry, comesBefore, allFit, isMap, firstFrom, lastUpTo}
+use Rattle.keys.specs.Entries.{Entry, entry, allFit, isMap, firstFrom, lastUpTo}
+use Rattle.octets.specs.Compare.{comesBefore}
 use Rattle.radix.specs.Shape.{shape}
 use Rattle.radix.specs.Walk.{firstIn, lastIn}
 use Rattle.radix_walk.specs.Neighbours.{cutKey}
-use Rattle.radix.proofs.Fits.{map-fit, key-short, fit-head, fit-tail}
+use Rattle.keys.proofs.Laws.{map-fit, key-short, fit-head, fit-tail}
 use Rattle.radix_walk.proofs.FirstAbove.{shape-first}
 use Rattle.radix_walk.proofs.LastBelow.{shape-last}
 

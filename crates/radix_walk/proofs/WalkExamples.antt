@@ -1,11 +1,11 @@
 -- The rules and the walks, computed on {foobar, footer} and on shapes that break one rule each. Assumes nothing.
 use mathlib.Core.Path.{_≡_, refl}
-use mathlib.Core.Bool.{Bool, true, false}
+use mathlib.Core.Bool.{true, false}
 use mathlib.Core.List.{List, [], _∷_, map}
-use mathlib.Core.Option.{Option, some, none}
+use mathlib.Core.Option.{some, none}
 use Prim.Native.Nat.{ℕ}
 use Rattle.octets.specs.Compare.{orderOf}
-use Rattle.radix.specs.Entries.{Entry, entry}
+use Rattle.keys.specs.Entries.{entry}
 use Rattle.radix.specs.Shape.{Shape, nil, node, own, longer, common, prefixOf, cut, startingWith, notStartingWith, branch, childrenOf, shape, startsWith}
 use Rattle.radix.specs.Canon.{rules, canonical}
 use Rattle.radix.specs.Walk.{findIn, leastIn, seekFirst, firstIn, greatestIn, seekLast, lastIn}

@@ -6,7 +6,7 @@ use mathlib.Core.Option.{Option, some, none}
 use Prim.Native.Nat.{ℕ, _-_, _≤_}
 use lib.ListN.{length, take}
 use Rattle.octets.specs.Bytes.{zeros}
-use Rattle.radix.specs.Entries.{Entry, entry}
+use Rattle.keys.specs.Entries.{Entry, entry}
 use Rattle.radix.specs.Shape.{Shape, nil, node}
 use Rattle.radix.specs.Record.{Nodes, lent, treeAt}
 use Rattle.radix.specs.Walk.{leastIn, greatestIn, firstIn, lastIn}

@@ -10,7 +10,7 @@ ghost use lib.Dec.{eqb};
 ghost use Rattle.octets.specs.Pick.{pick};
 ghost use Rattle.octets.specs.Place.{area};
 ghost use Rattle.octets.specs.Compare.{orderOf};
-ghost use Rattle.radix.specs.Entries.{entry};
+ghost use Rattle.keys.specs.Entries.{entry};
 ghost use Rattle.radix.specs.Record.{leadsOn, lent, treeAt};
 ghost use Rattle.radix.specs.Walk.{ownOf, firstIn, lastIn};
 ghost use Rattle.radix_walk.specs.Neighbours.{nearOf, cutKey, stopAt, leastFrom, greatestFrom, StopsAbove, StopsBelow, LastOf};

@@ -1,21 +1,20 @@
 -- Each operation on bytes: what it says of the record, the number and the out-parameter together. Assumes nothing.
 use mathlib.Core.Bool.{Bool, true, false, not, true≢false}
-use mathlib.Core.List.{List, []}
+use mathlib.Core.List.{List}
 use mathlib.Core.Option.{Option, some, none}
 use mathlib.Core.Path.{_≡_, refl, sym, ap, _∙_, subst, subst⁻¹}
 use Prim.Native.Nat.{ℕ, _<_, _≤_}
-use native.Mathlib.Omega.{arith}
 use borrow.Author.Tests.{eqb-true, lt-leb, le-leb}
 use lib.Dec.{eqb, leb}
 use lib.ListN.{length, take}
 use Rattle.octets.specs.Place.{put}
 use Rattle.octets.specs.Pick.{pick, both}
 use Rattle.octets.specs.Maybe.{isNone}
-use Rattle.radix.specs.Entries.{Entry, entry, isKey, mostKeys, lookup, insert}
+use Rattle.keys.specs.Entries.{Entry, entry, isKey, mostKeys, lookup, insert}
 use Rattle.radix.specs.Record.{entriesOf}
 use Rattle.radix.specs.declared.Index.{Index}
 use Rattle.radix_bytes.specs.Bytes.{recordFrom}
-use Rattle.index.specs.Operation.{Operation, Reply, refused, done, removed, value, found, nothing, Replied, stays, putTo, operate}
+use Rattle.keys.specs.Operation.{value, Operation, Reply, refused, done, removed, found, nothing, Replied, stays, putTo, operate}
 use Rattle.index.specs.Promise as promise
 use Rattle.index.specs.Answer.{outcomeReply, neighbourReply}
 use Rattle.index.specs.declared.Outcome.{Outcome}

@@ -9,12 +9,12 @@ use lib.Dec.{eqb, leb}
 use lib.ListN.{length}
 use Rattle.octets.specs.Pick.{pick}
 use Rattle.octets.specs.Place.{put}
-use Rattle.radix.specs.Entries.{Entry}
+use Rattle.keys.specs.Entries.{Entry}
 use Rattle.radix.specs.Record.{entriesOf}
 use Rattle.radix.specs.Answer.{ifSo}
 use Rattle.radix.specs.declared.Index.{Index}
 use Rattle.radix_bytes.specs.Bytes.{recordFrom}
-use Rattle.index.specs.Operation.{Operation, Reply, refused, done, removed, value, found, nothing, Replied, operate}
+use Rattle.keys.specs.Operation.{value, Operation, Reply, refused, done, removed, found, nothing, Replied, operate}
 
 abbrev pub codeOf : Reply → ℕ
 codeOf (refused n) = n

@@ -5,7 +5,7 @@ ghost use mathlib.Core.List.{[]};
 ghost use mathlib.Core.Option.{some};
 ghost use lib.ListN.{length};
 ghost use Rattle.radix_bytes.specs.Bytes.{recordSize};
-ghost use Rattle.index.specs.Operation.{put, remove, find};
+ghost use Rattle.keys.specs.Operation.{put, remove, find};
 ghost use Rattle.index.specs.Answer.{replyOf};
 ghost use Rattle.wallathi_index.specs.Export.{codeOf, outOf, isChange, entriesIn, Follows, Answered, Settled};
 use index::Answer;

@@ -14,7 +14,7 @@ ghost use mathlib.Core.Path.{_≡_};
 ghost use mathlib.Core.List.{[]};
 ghost use mathlib.Core.Option.{some};
 ghost use Rattle.radix_bytes.specs.Bytes.{recordSize};
-ghost use Rattle.index.specs.Operation.{put, remove, find, firstAtOrAbove, lastAtOrBelow};
+ghost use Rattle.keys.specs.Operation.{put, remove, find, firstAtOrAbove, lastAtOrBelow};
 ghost use Rattle.wallathi_index.specs.Export.{entriesIn, replyIn, Follows, Answered, Tells};
 
 // How many bytes a record has.

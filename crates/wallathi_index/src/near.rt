@@ -3,9 +3,9 @@
 ghost use mathlib.Core.Path.{_≡_};
 ghost use Prim.Native.Nat.{_≤_};
 ghost use lib.ListN.{length};
-ghost use Rattle.radix.specs.Entries.{entry};
+ghost use Rattle.keys.specs.Entries.{entry};
 ghost use Rattle.radix_bytes.specs.Bytes.{recordSize};
-ghost use Rattle.index.specs.Operation.{found, firstAtOrAbove, lastAtOrBelow};
+ghost use Rattle.keys.specs.Operation.{found, firstAtOrAbove, lastAtOrBelow};
 ghost use Rattle.index.specs.Answer.{neighbourReply};
 ghost use Rattle.wallathi_index.specs.Export.{entriesIn, replyIn, Tells};
 use crate::change::wide;

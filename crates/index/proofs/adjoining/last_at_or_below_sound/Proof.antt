@@ -1,11 +1,11 @@
 -- `last_at_or_below_sound` meets its contract. Assumes nothing.
+use mathlib.Core.List.{[]}
 use mathlib.Core.Bool.{true}
 use mathlib.Core.Path.{_≡_, sym, _∙_}
-use mathlib.Core.List.{[]}
 use native.Mathlib.Omega.{arith}
 use borrow.Author.Needs.{needs}
 use borrow.Author.Tests.{not-true, not-false}
-use Rattle.radix.specs.Entries.{isKey}
+use Rattle.keys.specs.Entries.{isKey}
 use Rattle.radix.specs.Record.{nodesOf, treeAt}
 use Rattle.radix.specs.Walk.{lastIn}
 use Rattle.index.specs.Answer.{neighbourReply}

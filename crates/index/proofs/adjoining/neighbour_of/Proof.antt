@@ -1,5 +1,4 @@
 -- `neighbour_of` meets its contract. Assumes nothing.
-use mathlib.Core.Path.{_≡_, refl, sym, ap, _∙_}
 use borrow.Author.Needs.{needs}
 use Rattle.index.proofs.adjoining.neighbour_of.Statement.{statement}
 use Rattle.index.proofs.adjoining.neighbour_of.Tie as tie

@@ -1,7 +1,8 @@
 -- `empty` meets its contract. Assumes nothing.
 use borrow.Author.Needs.{needs}
-use Rattle.radix.specs.Answer.{tabled}
-use Rattle.index.proofs.Steps.{none-map, empty-holds}
+use Rattle.keys.specs.Table.{tabled}
+use Rattle.keys.proofs.Laws.{none-map}
+use Rattle.index.proofs.Steps.{empty-holds}
 use Rattle.index.proofs.operation.empty.Statement.{statement}
 use Rattle.index.proofs.operation.empty.Tie as tie
 

@@ -1,13 +1,7 @@
 -- `find` meets its contract. Assumes nothing.
-use mathlib.Core.Bool.{Bool, true, false}
-use mathlib.Core.Path.{_≡_, refl, sym, ap, _∙_}
-use mathlib.Core.List.{List}
-use mathlib.Core.Option.{some, none}
-use Prim.Native.Nat.{ℕ, _<_, _≤_}
-use native.Mathlib.Omega.{arith}
 use borrow.Author.Needs.{needs}
 use borrow.Author.Tests.{not-true, not-false}
-use Rattle.index.specs.Operation.{find}
+use Rattle.keys.specs.Operation.{find}
 use Rattle.index.proofs.Steps.{answers-2, listed-sound}
 use Rattle.index.proofs.operation.find.Statement.{statement}
 use Rattle.index.proofs.operation.find.Tie as tie

@@ -1,15 +1,12 @@
 -- `find_sound` meets its contract: on the tree of a record that holds entries the walk is the lookup. Assumes nothing.
-use mathlib.Core.Bool.{Bool, true, false}
-use mathlib.Core.Path.{_≡_, refl, sym, ap, _∙_}
-use mathlib.Core.List.{List}
-use mathlib.Core.Option.{some, none}
-use Prim.Native.Nat.{ℕ, _<_, _≤_}
+use mathlib.Core.Bool.{true}
+use mathlib.Core.Path.{_≡_, sym, ap, _∙_}
 use native.Mathlib.Omega.{arith}
 use borrow.Author.Needs.{needs}
 use borrow.Author.Tests.{not-true, not-false}
 use Rattle.radix.specs.declared.Found.{Found}
-use Rattle.radix.specs.Entries.{isKey}
-use Rattle.index.specs.Operation.{find, valueReply}
+use Rattle.keys.specs.Entries.{isKey}
+use Rattle.keys.specs.Operation.{valueReply}
 use Rattle.radix.specs.Answer.{foundOf}
 use Rattle.index.proofs.Steps.{sound-root, find-3, find-is}
 use Rattle.index.proofs.operation.find_sound.Statement.{statement}

@@ -1,26 +1,17 @@
 -- `put_in` meets its contract. Assumes nothing.
-use mathlib.Core.Bool.{Bool, true, false}
-use mathlib.Core.Path.{_≡_, refl, sym, ap, _∙_}
-use mathlib.Core.List.{List}
-use mathlib.Core.Option.{some}
-use Prim.Native.Nat.{ℕ, _+_, _^_, _<_, _≤_}
+use mathlib.Core.Bool.{true}
+use mathlib.Core.Path.{_≡_, sym, ap, _∙_}
+use Prim.Native.Nat.{_^_, _<_, _≤_}
 use native.Mathlib.Omega.{arith}
 use borrow.Author.Needs.{needs}
-use borrow.Author.Tests.{lt-leb, le-leb, not-true, not-false}
+use borrow.Author.Tests.{not-true, not-false}
 use lib.ListN.{length}
-use Rattle.radix.specs.Entries.{Entry, isKey, isMap, has}
-use Rattle.radix.specs.Rank.{rank}
-use Rattle.index.specs.Operation.{put, remove}
-use Rattle.radix.specs.Table.{Columns, columns, rowsFrom}
+use Rattle.keys.specs.Entries.{isKey, isMap, has}
+use Rattle.keys.specs.Table.{Columns, columns, rowsFrom, tabled}
 use Rattle.radix.specs.Layout.{recordOf}
-use Rattle.radix.specs.Answer.{tabled}
-use Rattle.index.specs.Answer.{replyOf}
-use Rattle.radix.proofs.Fits.{map-length, map-rising, key-short}
-use Rattle.index.proofs.Kept.{map-without}
-use Rattle.radix.proofs.Positions.{rank-most, rank-held}
-use Rattle.radix.proofs.Rows.{length-rows}
+use Rattle.keys.proofs.Laws.{map-length, map-rising, key-short, rank-most, rank-held, length-rows, is-held, held-rows, new-rows, new-map, held-map}
 use Rattle.radix.proofs.Laws.{entries-map}
-use Rattle.index.proofs.Steps.{is-held, held-rows, new-rows, held-map, new-map, put-3, put-18, put-held, put-new}
+use Rattle.index.proofs.Steps.{put-3, put-18, put-held, put-new}
 use Rattle.index.proofs.operation.put_in.Statement.{statement}
 use Rattle.index.proofs.operation.put_in.Tie as tie
 

@@ -1,14 +1,6 @@
 -- `remove_sound` meets its contract. Assumes nothing.
-use mathlib.Core.Bool.{Bool, true, false}
-use mathlib.Core.Path.{_≡_, refl, sym, ap, _∙_}
-use mathlib.Core.List.{List}
-use mathlib.Core.Option.{some, none}
-use Prim.Native.Nat.{ℕ, _<_, _≤_}
-use native.Mathlib.Omega.{arith}
-use borrow.Author.Needs.{needs}
-use borrow.Author.Tests.{not-true, not-false}
-use Rattle.index.specs.Operation.{put, remove}
-use Rattle.radix.specs.Answer.{tabled}
+use Rattle.keys.specs.Operation.{remove}
+use Rattle.keys.specs.Table.{tabled}
 use Rattle.index.specs.Answer.{replyOf}
 use Rattle.index.proofs.Steps.{sound-root, sound-listed, changes-some}
 use Rattle.index.proofs.operation.remove_sound.Statement.{statement}

@@ -1,11 +1,10 @@
 -- `grow` meets its contract: it lays what `sprout` makes of the rows. Assumes nothing.
 use mathlib.Core.Bool.{Bool, true, false}
-use mathlib.Core.Path.{_≡_, refl, sym, ap, ap₂, _∙_, subst}
+use mathlib.Core.Path.{_≡_, refl, sym, ap, _∙_, subst}
 use mathlib.Core.List.{List}
-use mathlib.Core.Option.{Option, some, none}
+use mathlib.Core.Option.{some, none}
 use Prim.Native.Nat.{ℕ, _+_, _*_, _-_, _<_, _≤_}
 use native.Mathlib.Omega.{arith}
-use borrow.Author.Needs.{needs}
 use lib.Dec.{eqb}
 use lib.ListN.{length, getD}
 use borrow.Fn.Kinds.{In}
@@ -13,13 +12,13 @@ use borrow.Fn.PlainCycle.{Measures, is, falls, and}
 use Rattle.octets.specs.Pick.{pick}
 use Rattle.octets.specs.Place.{area}
 use Rattle.radix.specs.Shape.{Shape, node, nodes}
-use Rattle.radix.specs.Record.{Nodes, lent, lengthOf}
-use Rattle.radix.specs.Table.{Columns, columns}
+use Rattle.radix.specs.Record.{Nodes, lent}
+use Rattle.keys.specs.Table.{lengthOf, Columns, columns}
 use Rattle.radix.specs.Layout.{sprout, laid, withCell}
 use Rattle.radix.specs.Rows.{restAt, Ready}
 use Rattle.radix.proofs.Laying.{rest-nil}
 use Rattle.radix.proofs.Sprouts.{sprout-none}
-use Rattle.radix.proofs.Growing.{end-within, label-fits, label-some, grown, ready-later, ready-below, place-within, laid-step, laid-none, sprout-end, link-small}
+use Rattle.radix.proofs.Growing.{end-within, label-fits, grown, ready-later, ready-below, place-within, laid-step, laid-none, sprout-end, link-small}
 use Rattle.radix.proofs.construction.grow.Reads as grow
 use Rattle.radix.proofs.construction.grow.Kinds as grow-kinds
 use Rattle.radix.proofs.construction.+grow.Lts-grow as grow-lts

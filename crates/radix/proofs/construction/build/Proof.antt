@@ -1,16 +1,14 @@
 -- `build` meets its contract: its rows are laid from place 1 on, and the root at place 0 leads to them. Assumes nothing.
-use mathlib.Core.Bool.{true}
-use mathlib.Core.Path.{_≡_, refl, sym, ap, _∙_}
-use Prim.Native.Nat.{ℕ, _+_, _<_, _≤_}
+use mathlib.Core.Path.{_≡_, ap}
+use Prim.Native.Nat.{ℕ, _<_, _≤_}
 use native.Mathlib.Omega.{arith}
 use borrow.Author.Needs.{needs}
 use lib.Dec.{eqb}
 use lib.ListN.{length, replicate, length-replicate}
 use Rattle.octets.specs.Pick.{pick}
-use Rattle.radix.specs.Entries.{isMap}
-use Rattle.radix.specs.Shape.{nodes, shape}
-use Rattle.radix.specs.Record.{Nodes, lent}
-use Rattle.radix.specs.Table.{Columns, columns, rowsFrom}
+use Rattle.radix.specs.Shape.{nodes}
+use Rattle.radix.specs.Record.{lent}
+use Rattle.keys.specs.Table.{Columns, columns, rowsFrom}
 use Rattle.radix.specs.Layout.{blank}
 use Rattle.radix.proofs.Growing.{link-small}
 use Rattle.radix.proofs.Built.{nodes-most, shape-rows, ready-all, built}

@@ -1,13 +1,8 @@
 -- `group_end` meets its contract. Assumes nothing.
-use mathlib.Core.Bool.{Bool, true, false}
-use mathlib.Core.Path.{_≡_, refl, sym, ap, ap₂, _∙_}
-use mathlib.Core.List.{List}
-use Prim.Native.Nat.{ℕ, _+_, _*_, _-_, _<_, _≤_}
-use native.Mathlib.Nat.{add-zero, sub-zero, zero-add}
+use mathlib.Core.Path.{_≡_, refl, _∙_}
+use Prim.Native.Nat.{_+_, _*_, _-_, _<_, _≤_}
 use native.Mathlib.Omega.{arith}
-use borrow.Author.Needs.{needs}
-use borrow.Author.Tests.{eq-eqb, ne-eqb, not-true, not-false}
-use lib.ListN.{length, getD, set}
+use lib.ListN.{getD}
 use Rattle.radix.specs.Rows.{alikeAt}
 use Rattle.radix.proofs.RowTurns.{alike-stop, alike-next, alike-end}
 use Rattle.radix.proofs.construction.group_end.Statement.{statement}

@@ -1,17 +1,13 @@
 -- `put_node` meets its contract. Assumes nothing.
-use mathlib.Core.Bool.{Bool, true, false}
-use mathlib.Core.Path.{_≡_, refl, sym, ap, ap₂, _∙_}
+use mathlib.Core.Path.{_≡_, sym, ap, ap₂, _∙_}
 use mathlib.Core.List.{List}
-use Prim.Native.Nat.{ℕ, _+_, _*_, _-_, _<_, _≤_}
-use native.Mathlib.Nat.{add-zero, sub-zero, zero-add}
+use Prim.Native.Nat.{ℕ, _+_, _*_, _-_}
 use native.Mathlib.Omega.{arith}
 use borrow.Author.Needs.{needs}
-use borrow.Author.Tests.{eq-eqb, ne-eqb, not-true, not-false}
-use lib.ListN.{length, getD, set}
+use lib.ListN.{length, set}
 use Rattle.octets.specs.Place.{area, put}
 use Rattle.octets.proofs.Laws.{part-area, length-area}
-use Rattle.radix.specs.Record.{Nodes, lent}
-use Rattle.radix.specs.Layout.{withCell}
+use Rattle.radix.specs.Record.{lent}
 use Rattle.radix.proofs.construction.put_node.Statement.{statement}
 use Rattle.radix.proofs.construction.put_node.Tie as tie
 

@@ -1,21 +1,18 @@
 -- `gather` meets its contract: its tests are those of `gathered`. Assumes nothing.
-use mathlib.Core.Bool.{Bool, true, false}
-use mathlib.Core.Path.{_≡_, refl, sym, ap, _∙_, subst}
-use mathlib.Core.List.{List}
-use mathlib.Core.Option.{Option, some, none}
-use Prim.Native.Nat.{ℕ, _+_, _*_, _-_, _<_, _≤_}
+use mathlib.Core.Bool.{true}
+use mathlib.Core.Path.{_≡_, sym, ap, _∙_, subst}
+use Prim.Native.Nat.{ℕ, _+_, _<_, _≤_}
 use native.Mathlib.Omega.{arith}
 use borrow.Author.Tests.{not-true, not-false}
 use borrow.Author.Needs.{needs}
-use lib.ListN.{length, take, getD}
+use lib.ListN.{length, take}
 use lib.Seq.{length-take-le}
 use borrow.Fn.Kinds.{In}
 use borrow.Fn.PlainCycle.{Measures, is, falls, and}
 use Rattle.radix.specs.declared.Gathered.{Gathered}
-use Rattle.radix.specs.declared.Gathered.the-variants.{Rows, TooMany}
 use Rattle.radix.specs.Answer.{rowsOf, Room, Within}
-use Rattle.radix.specs.Record.{Nodes, lent, leadsOn, treeAt}
-use Rattle.radix.specs.Table.{Columns, columns, rowsFrom}
+use Rattle.radix.specs.Record.{Nodes, lent, leadsOn}
+use Rattle.keys.specs.Table.{Columns, columns, rowsFrom}
 use Rattle.radix.proofs.Turns.{leads-to}
 use Rattle.radix.proofs.Gathers.{gather-nil, gather-deep, gather-full, gather-below as stops-below, gather-later}
 use Rattle.radix.proofs.gather.gather.Reads as gather

@@ -1,17 +1,16 @@
 -- `with_own` meets its contract: a key node's row is written after the others. Assumes nothing.
 use mathlib.Core.Path.{_≡_, sym, ap, ap₂, _∙_, subst}
 use mathlib.Core.List.{List}
-use Prim.Native.Nat.{ℕ, _+_, _*_, _-_, _≤_, _<_, _^_}
-use native.Mathlib.Nat.{sub-zero}
+use Prim.Native.Nat.{ℕ, _+_, _*_, _-_, _<_, _^_}
 use native.Mathlib.Numerals.{add-one}
 use native.Mathlib.Omega.{arith}
 use borrow.Author.Needs.{needs}
-use lib.ListN.{length, take, getD, set, length-set}
+use lib.ListN.{length, take, getD, set}
 use lib.Seq.{length-take-le}
 use Rattle.octets.specs.Place.{put}
-use Rattle.radix.specs.Entries.{Entry}
-use Rattle.radix.specs.Table.{columns, rowsFrom}
-use Rattle.radix.proofs.Rows.{row-added, own-none, own-full, own-added}
+use Rattle.keys.specs.Table.{columns, rowsFrom}
+use Rattle.keys.proofs.Laws.{row-added}
+use Rattle.radix.proofs.Gathers.{own-none, own-full, own-added}
 use Rattle.radix.proofs.gather.with_own.Statement.{statement}
 use Rattle.radix.proofs.gather.with_own.Tie as tie
 

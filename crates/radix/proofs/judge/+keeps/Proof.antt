@@ -1,16 +1,14 @@
 -- `keeps` meets its contract: its tests are those of `rules`. Assumes nothing.
-use mathlib.Core.Bool.{Bool, true, false}
-use mathlib.Core.Path.{_≡_, refl, sym, ap, _∙_}
+use mathlib.Core.Bool.{true}
+use mathlib.Core.Path.{_≡_, sym, _∙_}
 use mathlib.Core.List.{List}
-use Prim.Native.Nat.{ℕ, _-_, _<_, _≤_}
+use Prim.Native.Nat.{ℕ, _<_, _≤_}
 use native.Mathlib.Omega.{arith}
 use borrow.Author.Tests.{not-true, not-false}
 use borrow.Author.Needs.{needs}
-use lib.ListN.{length, getD, set, length-set}
 use borrow.Fn.Kinds.{In}
 use borrow.Fn.PlainCycle.{Measures, is, falls, and}
-use Rattle.radix.specs.Canon.{rules}
-use Rattle.radix.specs.Record.{Nodes, lent, leadsOn, treeAt}
+use Rattle.radix.specs.Record.{Nodes, lent, leadsOn}
 use Rattle.radix.proofs.Turns.{leads-to}
 use Rattle.radix.proofs.Local.{rules-nil, rules-stop, rules-below, rules-later}
 use Rattle.radix.proofs.judge.keeps.Reads as keeps

@@ -1,18 +1,11 @@
 -- `mark` meets its contract: its tests are those of `marksFrom`. Assumes nothing.
-use mathlib.Core.Bool.{Bool, true, false}
-use mathlib.Core.Path.{_≡_, refl, sym, ap, _∙_}
-use mathlib.Core.List.{List}
-use mathlib.Core.Option.{Option, some, none}
-use Prim.Native.Nat.{ℕ, _-_, _<_}
+use mathlib.Core.Path.{sym, _∙_}
+use Prim.Native.Nat.{ℕ, _<_}
 use native.Mathlib.Omega.{arith}
 use borrow.Author.Tests.{not-true, not-false}
-use borrow.Author.Needs.{needs}
-use lib.ListN.{length, getD, set, length-set}
+use lib.ListN.{length-set}
 use borrow.Fn.Kinds.{In}
 use borrow.Fn.PlainCycle.{Measures, is, falls, and}
-use Rattle.octets.specs.Maybe.{_>>=_}
-use Rattle.radix.specs.Answer.{ifSo}
-use Rattle.radix.specs.Record.{marksFrom}
 use Rattle.radix.proofs.Marks.{mark-none, mark-end, mark-out, mark-twice, mark-stop, mark-more}
 use Rattle.radix.proofs.judge.mark.Reads as mark
 use Rattle.radix.proofs.judge.mark.Kinds as mark-kinds

@@ -1,13 +1,9 @@
 -- `free_at` meets its contract. Assumes nothing.
-use mathlib.Core.Bool.{Bool, true, false}
-use mathlib.Core.Path.{_≡_, refl, sym, ap, _∙_}
-use mathlib.Core.List.{List}
-use Prim.Native.Nat.{ℕ, _*_, _+_, _-_, _<_, _≤_}
+use mathlib.Core.Path.{_≡_, _∙_}
+use Prim.Native.Nat.{_*_, _+_, _-_}
 use native.Mathlib.Omega.{arith}
 use borrow.Author.Needs.{needs}
-use borrow.Author.Tests.{eq-eqb, ne-eqb, not-true, not-false}
-use lib.ListN.{length, getD}
-use Rattle.radix.specs.Record.{Nodes, lent, areClean}
+use Rattle.radix.specs.Record.{Nodes, lent}
 use Rattle.radix.proofs.Tidy.{free-len, free-key, free-child, free-next, free-val, free-label, zero-part}
 use Rattle.radix.proofs.judge.free_at.Statement.{statement}
 use Rattle.radix.proofs.judge.free_at.Tie as tie

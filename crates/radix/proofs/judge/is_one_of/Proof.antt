@@ -1,13 +1,9 @@
 -- `is_one_of` meets its contract. Assumes nothing.
-use mathlib.Core.Bool.{Bool, true, false}
-use mathlib.Core.Path.{_≡_, refl, sym, ap, _∙_}
 use mathlib.Core.List.{List}
-use Prim.Native.Nat.{ℕ, _*_, _+_, _-_, _<_, _≤_}
+use Prim.Native.Nat.{ℕ}
 use native.Mathlib.Omega.{arith}
 use borrow.Author.Needs.{needs}
-use borrow.Author.Tests.{not-true, not-false}
-use lib.ListN.{length, getD}
-use Rattle.radix.specs.Record.{Nodes, lent, leadsOn, labelOf, valueOf, treeAt}
+use Rattle.radix.specs.Record.{Nodes, lent}
 use Rattle.radix.proofs.Local.{one-long, one-low, one-key, one-below}
 use Rattle.radix.proofs.judge.is_one_of.Statement.{statement}
 use Rattle.radix.proofs.judge.is_one_of.Tie as tie

@@ -1,13 +1,13 @@
 -- `several` meets its contract. Assumes nothing.
-use mathlib.Core.Bool.{Bool, true, false}
-use mathlib.Core.Path.{_≡_, refl, sym, ap, _∙_}
+use mathlib.Core.Bool.{true}
+use mathlib.Core.Path.{_≡_, sym, ap, _∙_}
 use mathlib.Core.List.{List}
-use Prim.Native.Nat.{ℕ, _*_, _+_, _-_, _<_, _≤_}
+use Prim.Native.Nat.{ℕ, _-_, _<_, _≤_}
 use native.Mathlib.Omega.{arith}
 use borrow.Author.Needs.{needs}
 use borrow.Author.Tests.{not-true, not-false}
-use lib.ListN.{length, getD}
-use Rattle.radix.specs.Record.{Nodes, lent, leadsOn, labelOf, valueOf, treeAt}
+use lib.ListN.{getD}
+use Rattle.radix.specs.Record.{leadsOn}
 use Rattle.radix.proofs.Turns.{leads-to}
 use Rattle.radix.proofs.Local.{not-several, by-next}
 use Rattle.radix.proofs.judge.several.Statement.{statement}

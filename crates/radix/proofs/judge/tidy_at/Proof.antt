@@ -1,13 +1,11 @@
 -- `tidy_at` meets its contract. Assumes nothing.
-use mathlib.Core.Bool.{Bool, true, false}
-use mathlib.Core.Path.{_≡_, refl, sym, ap, _∙_}
+use mathlib.Core.Path.{_≡_, _∙_}
 use mathlib.Core.List.{List}
-use Prim.Native.Nat.{ℕ, _*_, _+_, _-_, _<_, _≤_}
+use Prim.Native.Nat.{ℕ, _*_, _+_, _-_}
 use native.Mathlib.Omega.{arith}
 use borrow.Author.Needs.{needs}
-use borrow.Author.Tests.{eq-eqb, ne-eqb, not-true, not-false}
-use lib.ListN.{length, getD}
-use Rattle.radix.specs.Record.{Nodes, lent, areClean}
+use borrow.Author.Tests.{not-true, not-false}
+use Rattle.radix.specs.Record.{Nodes, lent}
 use Rattle.radix.proofs.Tidy.{tidy-long, tidy-flag, tidy-tail, zero-part}
 use Rattle.radix.proofs.judge.tidy_at.Statement.{statement}
 use Rattle.radix.proofs.judge.tidy_at.Tie as tie

@@ -1,13 +1,8 @@
 -- `first_byte` meets its contract. Assumes nothing.
-use mathlib.Core.Bool.{Bool, true, false}
-use mathlib.Core.Path.{_≡_, refl, sym, ap, _∙_}
-use mathlib.Core.List.{List}
-use Prim.Native.Nat.{ℕ, _*_, _+_, _-_, _<_, _≤_}
+use mathlib.Core.Path.{_≡_, sym, _∙_}
+use Prim.Native.Nat.{_*_, _<_}
 use native.Mathlib.Omega.{arith}
 use borrow.Author.Needs.{needs}
-use borrow.Author.Tests.{not-true, not-false}
-use lib.ListN.{length, getD}
-use Rattle.radix.specs.Record.{Nodes, lent, leadsOn, labelOf, valueOf, treeAt}
 use Rattle.radix.proofs.Turns.{first-none, first-some}
 use Rattle.radix.proofs.pool.first_byte.Statement.{statement}
 use Rattle.radix.proofs.pool.first_byte.Tie as tie

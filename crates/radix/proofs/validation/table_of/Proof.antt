@@ -1,16 +1,13 @@
 -- `table_of` meets its contract. Assumes nothing.
-use mathlib.Core.Bool.{Bool, true, false}
-use mathlib.Core.Path.{_≡_, refl, sym, ap, _∙_}
-use mathlib.Core.List.{List, []}
-use mathlib.Core.Option.{some, none}
-use Prim.Native.Nat.{ℕ, _<_, _≤_}
+use mathlib.Core.List.{[]}
+use mathlib.Core.Path.{_≡_, sym, ap, _∙_}
 use native.Mathlib.Omega.{arith}
 use borrow.Author.Needs.{needs}
-use borrow.Author.Tests.{not-true, not-false}
 use lib.ListN.{replicate}
 use Rattle.radix.specs.declared.Gathered.{Gathered}
 use Rattle.radix.specs.Record.{treeOf}
-use Rattle.radix.specs.Table.{columns, rowsFrom, gathered}
+use Rattle.keys.specs.Table.{columns}
+use Rattle.radix.specs.Gathering.{gathered}
 use Rattle.radix.specs.Answer.{rowsOf}
 use Rattle.radix.proofs.Listing.{none-listed, tree-listed}
 use Rattle.radix.proofs.validation.table_of.Statement.{statement}

@@ -9,7 +9,7 @@ use lib.ListN.{length, take}
 use Rattle.radix.specs.Record.{Nodes, lent, leadsOn, treeAt}
 use Rattle.radix.specs.Walk.{greatestIn}
 use Rattle.radix_walk.specs.Neighbours.{nearOf, cutKey, alone, greatestFrom}
-use Rattle.radix.proofs.Turns.{leads-to}
+use Rattle.radix.proofs.Laws.{leads-to}
 use Rattle.radix_walk.proofs.Paths.{Down, greatest-own, greatest-below, greatest-start, greatest-end}
 use Rattle.radix_walk.proofs.near.greatest.Statement.{statement}
 use Rattle.radix_walk.proofs.near.greatest.Tie as tie

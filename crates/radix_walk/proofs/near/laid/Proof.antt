@@ -7,7 +7,7 @@ use borrow.Author.Needs.{needs}
 use lib.ListN.{take}
 use Rattle.octets.specs.Place.{area, put}
 use Rattle.octets.proofs.Laws.{length-area, part-area}
-use Rattle.radix.proofs.Turns.{laid-on}
+use Rattle.radix.proofs.Laws.{laid-on}
 use Rattle.radix_walk.proofs.Paths.{laid-cut}
 use Rattle.radix_walk.proofs.near.laid.Statement.{statement}
 use Rattle.radix_walk.proofs.near.laid.Tie as tie

@@ -9,7 +9,7 @@ use borrow.Author.Tests.{not-true, not-false}
 use lib.ListN.{getD}
 use Rattle.radix.specs.Record.{Nodes, leadsOn, treeAt}
 use Rattle.radix.specs.Walk.{greatestIn}
-use Rattle.radix.proofs.Turns.{leads-to}
+use Rattle.radix.proofs.Laws.{leads-to}
 use Rattle.radix_walk.proofs.Paths.{last-none, last-here, last-later}
 use Rattle.radix_walk.proofs.near.last_of.Statement.{statement}
 use Rattle.radix_walk.proofs.near.last_of.Tie as tie

@@ -9,7 +9,7 @@ use lib.ListN.{length, take}
 use Rattle.radix.specs.Record.{Nodes, lent, leadsOn, treeAt}
 use Rattle.radix.specs.Walk.{leastIn}
 use Rattle.radix_walk.specs.Neighbours.{nearOf, cutKey, leastFrom}
-use Rattle.radix.proofs.Turns.{leads-to}
+use Rattle.radix.proofs.Laws.{leads-to}
 use Rattle.radix_walk.proofs.Paths.{Down, least-own, least-below, least-start, least-end}
 use Rattle.radix_walk.proofs.near.least.Statement.{statement}
 use Rattle.radix_walk.proofs.near.least.Tie as tie

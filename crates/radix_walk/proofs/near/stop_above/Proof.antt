@@ -9,7 +9,7 @@ use lib.ListN.{length, take, drop}
 use Rattle.radix.specs.Record.{Nodes, lent, leadsOn, treeAt}
 use Rattle.radix.specs.Walk.{seekFirst, firstIn}
 use Rattle.radix_walk.specs.Neighbours.{stopAt, leastFrom}
-use Rattle.radix.proofs.Turns.{leads-to}
+use Rattle.radix.proofs.Laws.{leads-to}
 use Rattle.radix_walk.proofs.Stops.{Met, first-next, first-into, first-above, first-whole, first-start, first-end, lead-within}
 use Rattle.radix_walk.proofs.near.stop_above.Statement.{statement}
 use Rattle.radix_walk.proofs.near.stop_above.Tie as tie

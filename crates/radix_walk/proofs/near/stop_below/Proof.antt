@@ -10,7 +10,7 @@ use lib.ListN.{length, take, drop, getD}
 use Rattle.radix.specs.Record.{Nodes, lent, leadsOn, treeAt}
 use Rattle.radix.specs.Walk.{seekLast, lastIn}
 use Rattle.radix_walk.specs.Neighbours.{stopAt, greatestFrom}
-use Rattle.radix.proofs.Turns.{leads-to}
+use Rattle.radix.proofs.Laws.{leads-to}
 use Rattle.radix_walk.proofs.Stops.{Met, into-fits, last-next, last-into, last-end, last-start, last-stop, lead-within}
 use Rattle.radix_walk.proofs.near.stop_below.Statement.{statement}
 use Rattle.radix_walk.proofs.near.stop_below.Tie as tie

@@ -1,16 +1,11 @@
 -- `find_from` meets its contract: what is left to walk answers what the whole walk answers. Assumes nothing.
-use mathlib.Core.Bool.{true, false}
 use mathlib.Core.Path.{_≡_, refl, sym, ap, _∙_}
-use mathlib.Core.List.{List}
-use Prim.Native.Nat.{ℕ, _+_, _*_, _-_, _≤_, _<_}
+use Prim.Native.Nat.{_≤_}
 use native.Mathlib.Omega.{arith}
-use borrow.Author.Needs.{needs}
-use lib.ListN.{length, drop, getD}
-use Rattle.octets.specs.Place.{area}
-use Rattle.radix.specs.Shape.{startsWith}
-use Rattle.radix.specs.Record.{Nodes, lent, labelOf, treeAt}
+use lib.ListN.{length, drop}
+use Rattle.radix.specs.Record.{Nodes, lent, treeAt}
 use Rattle.radix.specs.Walk.{findIn}
-use Rattle.radix.proofs.Turns.{tree-end, tree-nil, tree-out, Turn, find-none, find-next, find-own, find-below, find-fits}
+use Rattle.radix.proofs.Laws.{tree-end, tree-nil, tree-out, Turn, find-none, find-next, find-own, find-below, find-fits}
 use Rattle.radix_walk.proofs.seek.find_from.Statement.{statement}
 use Rattle.radix_walk.proofs.seek.find_from.Tie as tie
 

@@ -1,12 +1,12 @@
 -- `starts` meets its contract: what is left of the label is compared as the whole is. Assumes nothing.
-use mathlib.Core.Path.{_≡_, refl, sym, _∙_}
+use mathlib.Core.Path.{_≡_, sym, _∙_}
 use Prim.Native.Nat.{_+_, _-_, _≤_}
 use native.Mathlib.Nat.{add-zero, sub-zero}
 use native.Mathlib.Omega.{arith}
 use lib.ListN.{length, drop}
 use Rattle.octets.specs.Place.{area}
 use Rattle.radix.specs.Shape.{startsWith}
-use Rattle.radix.proofs.Turns.{starts-next, starts-stop, starts-short, starts-all}
+use Rattle.radix.proofs.Laws.{starts-next, starts-stop, starts-short, starts-all}
 use Rattle.radix_walk.proofs.seek.starts.Statement.{statement}
 use Rattle.radix_walk.proofs.seek.starts.Tie as tie
 

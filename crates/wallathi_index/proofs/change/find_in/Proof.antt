@@ -1,7 +1,6 @@
 -- `find_in` meets its contract. Assumes nothing.
-use Rattle.index.specs.declared.Answer.{Answer}
 use Rattle.index.specs.Answer.{replyOf}
-use Rattle.index.specs.Operation.{find}
+use Rattle.keys.specs.Operation.{find}
 use Rattle.wallathi_index.proofs.Exits.{answered}
 use borrow.Author.Needs.{needs}
 use Rattle.wallathi_index.proofs.change.find_in.Statement.{statement}

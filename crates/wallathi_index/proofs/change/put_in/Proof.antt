@@ -1,8 +1,7 @@
 -- `put_in` meets its contract. Assumes nothing.
 use Rattle.radix.specs.Record.{entriesOf}
-use Rattle.index.specs.declared.Answer.{Answer}
 use Rattle.index.specs.Answer.{replyOf}
-use Rattle.index.specs.Operation.{put}
+use Rattle.keys.specs.Operation.{put}
 use Rattle.wallathi_index.proofs.Exits.{follows, put-out}
 use borrow.Author.Needs.{needs}
 use Rattle.wallathi_index.proofs.change.put_in.Statement.{statement}

@@ -1,7 +1,6 @@
 -- `remove_in` meets its contract. Assumes nothing.
-use Rattle.index.specs.declared.Answer.{Answer}
 use Rattle.index.specs.Answer.{replyOf}
-use Rattle.index.specs.Operation.{remove}
+use Rattle.keys.specs.Operation.{remove}
 use Rattle.wallathi_index.proofs.Exits.{follows}
 use borrow.Author.Needs.{needs}
 use Rattle.wallathi_index.proofs.change.remove_in.Statement.{statement}

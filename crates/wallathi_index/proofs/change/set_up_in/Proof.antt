@@ -1,7 +1,6 @@
 -- `set_up_in` meets its contract. Assumes nothing.
 use mathlib.Core.Path.{refl, ap, _∙_}
 use Rattle.radix.specs.Record.{entriesOf}
-use Rattle.index.specs.declared.Answer.{Answer}
 use borrow.Author.Needs.{needs}
 use Rattle.wallathi_index.proofs.change.set_up_in.Statement.{statement}
 use Rattle.wallathi_index.proofs.change.set_up_in.Tie as tie

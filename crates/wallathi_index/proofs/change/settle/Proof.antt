@@ -2,7 +2,6 @@
 use mathlib.Core.Bool.{Bool}
 use mathlib.Core.Path.{refl, sym, _∙_, subst⁻¹}
 use borrow.Author.Tests.{not-true, not-false}
-use Rattle.index.specs.declared.Answer.{Answer}
 use Rattle.wallathi_index.specs.Export.{Settled}
 use borrow.Author.Needs.{needs}
 use Rattle.wallathi_index.proofs.change.settle.Statement.{statement}

@@ -1,7 +1,7 @@
 -- `first_in` meets its contract. Assumes nothing.
 use mathlib.Core.Path.{subst}
 use Rattle.index.specs.Answer.{neighbourReply}
-use Rattle.index.specs.Operation.{Reply, firstAtOrAbove}
+use Rattle.keys.specs.Operation.{Reply, firstAtOrAbove}
 use Rattle.wallathi_index.specs.Export.{Tells}
 use Rattle.wallathi_index.proofs.Exits.{reply-in}
 use borrow.Author.Needs.{needs}

@@ -1,7 +1,7 @@
 -- `last_in` meets its contract. Assumes nothing.
 use mathlib.Core.Path.{subst}
 use Rattle.index.specs.Answer.{neighbourReply}
-use Rattle.index.specs.Operation.{Reply, lastAtOrBelow}
+use Rattle.keys.specs.Operation.{Reply, lastAtOrBelow}
 use Rattle.wallathi_index.specs.Export.{Tells}
 use Rattle.wallathi_index.proofs.Exits.{reply-in}
 use borrow.Author.Needs.{needs}

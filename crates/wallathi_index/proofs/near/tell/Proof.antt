@@ -3,7 +3,7 @@ use mathlib.Core.Path.{_≡_, subst}
 use Prim.Native.Nat.{_-_}
 use native.Mathlib.Omega.{arith}
 use lib.ListN.{length}
-use Rattle.index.specs.Operation.{Reply}
+use Rattle.keys.specs.Operation.{Reply}
 use Rattle.wallathi_index.specs.Export.{Tells}
 use Rattle.wallathi_index.proofs.Exits.{found-reply}
 use borrow.Author.Needs.{needs}

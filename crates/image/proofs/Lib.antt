@@ -1,0 +1,8 @@
+-- Laws is what callers cite.
+pub mod Laws
+-- The passes answer what the image is.
+mod Marks
+mod Successive
+mod Passed
+-- The functions, return by return.
+mod Checks

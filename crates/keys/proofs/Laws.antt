@@ -1,0 +1,19 @@
+-- What callers cite of sorted entries. Assumes nothing.
+
+-- facts of every key
+pub use Rattle.keys.proofs.Every.{Keys, Short, keys-append, keys-left, keys-map, keys-right}
+-- two keys, and keys that rise
+pub use Rattle.keys.proofs.Sides.{is-false, Sides, below, equal, above, sides, before-self, before-trans, before-once, before-apart, same-swap}
+pub use Rattle.keys.proofs.Sorted.{both-left, both-right, before-less, before-equal, before-greater, before-le, before-nil, rising-tail, rising-left, rising-right, above-rising}
+-- what isMap says
+pub use Rattle.keys.proofs.Fits.{is-map, map-length, map-rising, map-fit, key-short, fit-head, fit-tail, none-map}
+-- put replaces or inserts, remove takes out, and neither changes another key's value
+pub use Rattle.keys.proofs.Maps.{lookup-append, lookup-none, or-none, lookup-insert, lookup-insert-other, lookup-without, lookup-without-other, rising-insert, rising-without, above-keys, above-absent}
+-- the neighbours: held, on the wanted side, none between; nothing exactly when none is on that side
+pub use Rattle.keys.proofs.Nearest.{FirstAt, first-at, first-none, none-first, LastAt, last-at, last-none, none-last, keys-held}
+-- every operation on a map leaves a map
+pub use Rattle.keys.proofs.Kept.{map-insert, map-without, Small, AllSmall, operate-map, operations-map, reads-after, full-not, put-below-64}
+-- a key's place among the rows of a table
+pub use Rattle.keys.proofs.Positions.{rank-held, rank-most}
+pub use Rattle.keys.proofs.Rows.{length-rows, row-added, rows-first, rows-none, rows-take, rows-drop, rows-get, rows-same}
+pub use Rattle.keys.proofs.Placing.{is-held, no-room, room-held, room-new, room-full, held-rows, new-rows, held-map, new-map, gone-rows}

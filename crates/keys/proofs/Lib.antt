@@ -1,0 +1,12 @@
+-- Laws is what callers cite; the others are its topics.
+pub mod Laws
+pub mod Every
+pub mod Sorted
+pub mod Sides
+pub mod Fits
+pub mod Maps
+pub mod Positions
+pub mod Nearest
+pub mod Kept
+pub mod Rows
+pub mod Placing

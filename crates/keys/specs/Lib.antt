@@ -1,0 +1,6 @@
+-- Read in this order.
+pub mod Entries
+pub mod Operation
+-- rows of a table, as the code has them
+pub mod Table
+pub mod Rank
