@@ -6,3 +6,4 @@ mod Successive
 mod Passed
 -- The functions, return by return.
 mod Checks
+mod Judged
