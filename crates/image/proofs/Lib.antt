@@ -7,3 +7,4 @@ mod Passed
 -- The functions, return by return.
 mod Checks
 mod Judged
+mod Looked

@@ -1,4 +1,5 @@
 -- Read in this order.
 pub mod Judgement
+pub mod Lookup
 -- How the judgement goes on, pass by pass.
 pub mod Passes
