@@ -1,0 +1,9 @@
+-- Topics.
+pub mod Table
+pub mod Loose
+pub mod Sizes
+pub mod Snapshots
+pub mod Judged
+pub mod Saved
+-- What callers cite.
+pub mod Laws
