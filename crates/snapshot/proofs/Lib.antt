@@ -5,5 +5,6 @@ pub mod Sizes
 pub mod Snapshots
 pub mod Judged
 pub mod Saved
+pub mod Turned
 -- What callers cite.
 pub mod Laws
