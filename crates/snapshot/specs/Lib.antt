@@ -1,4 +1,7 @@
--- Read in this order.
+-- What has to be believed, in this order.
 pub mod Bytes
 pub mod Parse
 pub mod Command
+pub mod Ledger
+-- The same files, told by a test of their structure: a law says that it is the same.
+pub mod Judge
