@@ -9,8 +9,13 @@ fn main() {
         Some(folder) => PathBuf::from(folder),
         None => here.join("../../target/staticlib"),
     };
+    let archive = folder.join("libwallathi_index.a");
     println!("cargo:rerun-if-env-changed=WALLATHI_LIB");
-    println!("cargo:rerun-if-changed={}", folder.join("libwallathi_index.a").display());
+    println!("cargo:rerun-if-changed={}", archive.display());
+    if !archive.exists() {
+        eprintln!("{} is missing: run `rt staticlib wallathi_index` at the top of the repository", archive.display());
+        std::process::exit(1);
+    }
     println!("cargo:rustc-link-search=native={}", folder.display());
     println!("cargo:rustc-link-lib=static=wallathi_index");
 }

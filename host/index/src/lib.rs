@@ -102,6 +102,9 @@ impl fmt::Debug for Entry {
 }
 
 /// An index that owns its record.
+///
+/// Two are equal where their records are, byte for byte: a clone is equal to its original. Indexes of equal keys and
+/// values that were made in different ways may differ, since a node may stand at any place of the pool.
 #[derive(Clone, PartialEq, Eq)]
 pub struct Index {
     record: Box<[u8]>,
