@@ -9,7 +9,7 @@ ghost use Rattle.groups.specs.Bytes.{regionBytes};
 ghost use Rattle.groups.specs.Parse.{groupIn};
 ghost use Rattle.groups.specs.Step as step;
 ghost use Rattle.groups.specs.Answer.{SoundRegion};
-ghost use Rattle.groups_change.specs.Change.{withDelivered, deliverAnswer, deliverLeaves, foundCount, claimAnswer, claimedAs, claimLeaves};
+ghost use Rattle.groups_change.specs.Change.{deliverAnswer, deliverLeaves, foundCount, claimAnswer, claimedAs, claimLeaves};
 use crate::Claimed;
 use crate::Delivery;
 use crate::consumers::lacks_consumer;
@@ -24,13 +24,6 @@ use crate::pieces::idle_for;
 use groups::Held;
 use groups::Place;
 use id::Id;
-
-pub fn set_delivered(region: &mut [u8], id: Id)
-    requires { ⌜ SoundRegion (now region) ⌝ }
-    ensures { λ _. ⌜ now (region .exit) ≡ regionBytes (withDelivered id (groupIn (now (region .entry)))) ⌝ }
-{
-    id::write_id(region, 17, id);
-}
 
 // The ID, above the last delivered one, becomes last delivered and pending for the consumer.
 pub fn deliver(region: &mut [u8], consumer: &[u8], time: u64, id: Id) -> Delivery
