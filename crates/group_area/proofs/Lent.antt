@@ -1,17 +1,17 @@
 -- What a caller of the area knows: when it is sound, the region that it may lend on, and what becomes of the others. Assumes nothing.
-use mathlib.Core.Path.{_≡_, refl, sym, ap, ap₂, _∙_, subst}
+use mathlib.Core.Path.{_≡_, refl, sym, ap, _∙_, subst}
 use mathlib.Core.Bool.{Bool, true, false, not}
 use mathlib.Core.List.{List, [], _∷_, _++_}
 use mathlib.Core.Option.{Option, some, none}
 use Prim.Native.Nat.{ℕ, _+_, _-_, _*_, _≤_, _<_}
 use native.Mathlib.Omega.{arith}
 use lib.ListN.{length}
-use Rattle.octets.specs.Pick.{pick, both}
+use Rattle.octets.specs.Pick.{pick}
 use Rattle.octets.specs.Maybe.{isNone}
-use Rattle.octets.specs.Bytes.{Bytes, zeros}
+use Rattle.octets.specs.Bytes.{Bytes}
 use Rattle.octets.specs.Place.{area, put}
 use Rattle.octets.specs.Compare.{same}
-use Rattle.octets.proofs.Laws.{both-true, same-true}
+use Rattle.octets.proofs.Laws.{both-true, same-true, both-of}
 use Rattle.id.specs.declared.Id.{Id}
 use Rattle.id.specs.Id.{greatest}
 use Rattle.id.proofs.Laws.{at-most-greatest}
@@ -23,15 +23,12 @@ use Rattle.groups.specs.Bytes.{regionBytes}
 use Rattle.groups.specs.Parse.{groupIn}
 use Rattle.groups.specs.Step.{findGroup, putGroup, withoutGroup}
 use Rattle.groups.specs.Answer.{SoundRegion, spotFrom, placeIn}
-use Rattle.groups.specs.Area.{namesOf, areGroups, isGroups, regions, areaBytes, parseArea}
-use Rattle.groups.proofs.Laws.{both-of, rules, entry, group-in, sound-region, absent-name, known-spot}
-use Rattle.groups.proofs.Spots.{place-known, place-new}
-use Rattle.groups.proofs.Consumers.{by-name, equal-same, greater-before}
-use Rattle.groups.proofs.Names.{after-differs}
+use Rattle.groups.specs.Area.{namesOf, areGroups, isGroups, areaBytes, parseArea}
+use Rattle.groups.proofs.Laws.{rules, entry, group-in, sound-region, absent-name, known-spot, place-known, place-new, by-name, equal-same, greater-before, after-differs}
 use Rattle.group_area.specs.Answer.{orNone, groupsIn, SoundArea}
-use Rattle.group_area.proofs.Groups.{First, first, joined, Sound, sound, are-sound}
-use Rattle.group_area.proofs.Read.{regions-parse, area-parse, AreaRead, area-bytes}
-use Rattle.group_area.proofs.Changed.{StandsAt, stands-at, find-unknown, find-first, find-later, put-less, put-equal, put-greater, put-none}
+use Rattle.group_area.proofs.Groups.{First, first, joined, sound, are-sound}
+use Rattle.group_area.proofs.Read.{regions-parse, area-parse, area-bytes}
+use Rattle.group_area.proofs.Changed.{find-unknown, find-first, find-later, put-less, put-equal, put-greater, put-none}
 use Rattle.group_area.proofs.Answers.{rules-of, at, known-few, group-at, replaced}
 
 -- every pending ID is at most the greatest ID

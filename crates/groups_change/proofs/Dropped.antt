@@ -10,14 +10,14 @@ use lib.ListN.{length, getD, take, drop, length-append, length-drop, drop-of-len
 use lib.Seq.{length-take-le, take-all, take-at, drop-at, drop-cons, take-suc, drop-drop}
 use Rattle.octets.specs.Pick.{pick}
 use Rattle.octets.specs.Compare.{same}
-use Rattle.octets.proofs.Laws.{both-true, same-true}
+use Rattle.octets.proofs.Laws.{both-true, same-true, never}
 use Rattle.id.specs.Id.{least, atMost}
 use Rattle.groups.specs.Group.{Pending, Group, isAmong, isPending, arePending, isGroup}
 use Rattle.groups.specs.Bytes.{regionBytes}
 use Rattle.groups.specs.Parse.{pendingIn, groupIn}
 use Rattle.groups.specs.Step.{pendingOf, pendingOfOthers, dropConsumer}
 use Rattle.groups.specs.Answer.{SoundRegion}
-use Rattle.groups.proofs.Laws.{never, Rules, rules, is-group, Within, all-within, above-within, length-within, count-others, up-to-all, entries-all, entry, without-unknown, none-of, same-place, sound-region, group-in, consumer-of, pending-from, sound-tested, length-region}
+use Rattle.groups.proofs.Laws.{Rules, rules, is-group, Within, all-within, above-within, length-within, count-others, up-to-all, entries-all, entry, without-unknown, none-of, same-place, sound-region, group-in, consumer-of, pending-from, sound-tested, length-region}
 use Rattle.groups_change.specs.Change.{withPending, withoutConsumer, withoutAt}
 use Rattle.groups_change.proofs.Moves.{nobody, entry-at}
 

@@ -8,7 +8,7 @@ use lib.ListN.{length, take, drop, set, length-append, length-replicate, replica
 use lib.Seq.{take-at, drop-at, drop-append-le, set-at}
 use Rattle.octets.specs.Bytes.{le, zeros}
 use Rattle.octets.specs.Place.{put, spliced}
-use Rattle.octets.proofs.Laws.{both-true, length-le}
+use Rattle.octets.proofs.Laws.{both-true, length-le, both-of, drop-zeros, put-at}
 use Rattle.id.specs.declared.Id.{Id}
 use Rattle.id.specs.Bytes.{idBytes}
 use Rattle.id.proofs.Laws.{length-id-bytes}
@@ -16,9 +16,9 @@ use Rattle.groups.specs.Group.{Pending, Group, isName, areNames}
 use Rattle.groups.specs.Bytes.{pendingBytes, allPending, padded, nameField, allNameFields, regionBytes}
 use Rattle.groups.specs.Parse.{groupIn}
 use Rattle.groups.specs.Answer.{SoundRegion}
-use Rattle.groups.proofs.Laws.{both-of, length-field, length-fields, length-entry, length-entries, length-padded, sixParts, Rules, rules, named}
+use Rattle.groups.proofs.Laws.{length-field, length-fields, length-entry, length-entries, length-padded, sixParts, Rules, rules, named}
 use Rattle.groups_change.specs.Places.{placesMoved}
-use Rattle.groups_change.proofs.Lists.{drop-zeros, put-at, spliced-at}
+use Rattle.groups_change.proofs.Lists.{spliced-at}
 
 -- a room whose used front is a list and then another
 pub fields-append : (xs ys : List (List ℕ)) → allNameFields (xs ++ ys) ≡ allNameFields xs ++ allNameFields ys

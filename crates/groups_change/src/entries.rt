@@ -9,23 +9,29 @@ ghost use Rattle.octets.specs.Pick.{pick};
 ghost use Rattle.octets.specs.Bytes.{le};
 ghost use Rattle.octets.specs.Place.{put};
 ghost use Rattle.id.specs.Bytes.{idBytes};
-ghost use Rattle.groups.specs.Bytes.{regionBytes};
+ghost use Rattle.groups.specs.Group.{mostPending};
+ghost use Rattle.groups.specs.Bytes.{regionBytes, regionSize, deliveredAt, pendingAt, entriesAt, entryBytes, placeAt};
 ghost use Rattle.groups.specs.Parse.{groupIn};
 ghost use Rattle.groups.specs.Step.{pendingOf, pendingOfOthers};
 ghost use Rattle.groups.specs.Answer.{SoundRegion};
 ghost use Rattle.groups_change.specs.Change.{withPending, withoutAt, rowOf};
 use crate::pieces::entry_row;
+use groups::DELIVERED_AT;
+use groups::ENTRIES_AT;
+use groups::ENTRY_BYTES;
+use groups::PENDING_AT;
+use groups::PLACE_AT;
 use id::Id;
 
 // An entry for the last delivered ID, after n others.
 pub fn append_entry(region: &mut [u8], n: usize, id: Id, place: usize, time: u64)
-    requires { ⌜ (length (now region) ≡ 7220) × (n < 256) × (place < 256) ⌝ }
-    ensures { λ _. ⌜ now (region .exit) ≡ put (put (put (now (region .entry)) (308 + n * 27) (rowOf id place time 1)) 306 (le 2 (n + 1))) 17 (idBytes id) ⌝ }
+    requires { ⌜ (length (now region) ≡ regionSize) × (n < mostPending) × (place < 256) ⌝ }
+    ensures { λ _. ⌜ now (region .exit) ≡ put (put (put (now (region .entry)) (entriesAt + n * entryBytes) (rowOf id place time 1)) pendingAt (le 2 (n + 1))) deliveredAt (idBytes id) ⌝ }
 {
     let row = entry_row(id, place, time, 1);
-    octets::copy_in(region, 308 + n * 27, &row);
-    octets::write_le(region, 306, 2, (n + 1) as u64);
-    id::write_id(region, 17, id);
+    octets::copy_in(region, ENTRIES_AT + n * ENTRY_BYTES, &row);
+    octets::write_le(region, PENDING_AT, 2, (n + 1) as u64);
+    id::write_id(region, DELIVERED_AT, id);
 }
 
 pub fn remove_entry(region: &mut [u8], i: usize)
@@ -33,16 +39,22 @@ pub fn remove_entry(region: &mut [u8], i: usize)
     ensures { λ _. ⌜ now (region .exit) ≡ regionBytes (withPending (withoutAt i (groupIn (now (region .entry)) .pending)) (groupIn (now (region .entry)))) ⌝ }
 {
     let n = groups::pending_count(region);
-    octets::splice(region, 308 + n * 27, 308 + i * 27, 27, b"");
-    octets::write_le(region, 306, 2, (n - 1) as u64);
+    octets::splice(
+        region,
+        ENTRIES_AT + n * ENTRY_BYTES,
+        ENTRIES_AT + i * ENTRY_BYTES,
+        ENTRY_BYTES,
+        b"",
+    );
+    octets::write_le(region, PENDING_AT, 2, (n - 1) as u64);
 }
 
 // The entry at a place is taken out if it is that consumer's: 1, otherwise 0.
 fn remove_if(region: &mut [u8], i: usize, k: usize) -> usize
     requires { ⌜ SoundRegion (now region) × (i < length (groupIn (now region) .pending)) ⌝ }
-    ensures { λ r. ⌜ (r ≡ pick (eqb (getD (now (region .entry)) (308 + i * 27 + 16) 0) k) 1 0) × (now (region .exit) ≡ pick (eqb (getD (now (region .entry)) (308 + i * 27 + 16) 0) k) (regionBytes (withPending (withoutAt i (groupIn (now (region .entry)) .pending)) (groupIn (now (region .entry))))) (now (region .entry))) ⌝ }
+    ensures { λ r. ⌜ (r ≡ pick (eqb (getD (now (region .entry)) (entriesAt + i * entryBytes + placeAt) 0) k) 1 0) × (now (region .exit) ≡ pick (eqb (getD (now (region .entry)) (entriesAt + i * entryBytes + placeAt) 0) k) (regionBytes (withPending (withoutAt i (groupIn (now (region .entry)) .pending)) (groupIn (now (region .entry))))) (now (region .entry))) ⌝ }
 {
-    let place = octets::wide(region[308 + i * 27 + 16]) as usize;
+    let place = octets::wide(region[ENTRIES_AT + i * ENTRY_BYTES + PLACE_AT]) as usize;
     if place != k {
         return 0;
     }
