@@ -17,13 +17,11 @@ use Rattle.groups.specs.Bytes.{regionBytes}
 use Rattle.groups.specs.Step.{putGroup, withoutGroup, newGroup}
 use Rattle.groups.specs.Answer.{spotFrom}
 use Rattle.groups.specs.Area.{mostGroups, namesOf, areGroups, areaBytes}
-use Rattle.groups.proofs.Laws.{known-spot, new-spot}
+use Rattle.groups.proofs.Laws.{known-spot, new-spot, Sound, sound, length-names, StandsAt, stands-at, missing-at}
 use Rattle.group_area.specs.declared.Created.the-variants.{Done as Made, Refused}
 use Rattle.group_area.specs.declared.Destroyed.the-variants.{Done as Gone, Absent}
 use Rattle.group_area.specs.Answer.{groupsIn, SoundArea, createOf, destroyOf}
-use Rattle.group_area.proofs.Groups.{Sound, sound}
 use Rattle.group_area.proofs.Laid.{region-at, region-put, region-out, region-in}
-use Rattle.group_area.proofs.Changed.{length-names, StandsAt, stands-at, missing-at}
 use Rattle.group_area.proofs.Found.{used-region, free-region}
 
 module _ (s : List ℕ) (h : SoundArea s) where

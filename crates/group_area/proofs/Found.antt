@@ -22,11 +22,8 @@ use Rattle.groups.specs.Parse.{nameIn}
 use Rattle.groups.specs.Answer.{spotFrom}
 use Rattle.groups.specs.Area.{namesOf, areGroups, regions, areaBytes}
 use Rattle.group_area.specs.Answer.{groupsIn, SoundArea}
-use Rattle.group_area.proofs.Groups.{first, Sound, sound, length-regions}
-use Rattle.group_area.proofs.Read.{length-area-bytes}
+use Rattle.groups.proofs.Laws.{first, Sound, sound, length-regions, length-area-bytes, length-names, named, rules, length-region, first-byte}
 use Rattle.group_area.proofs.Judgement.{name-first}
-use Rattle.group_area.proofs.Changed.{length-names}
-use Rattle.groups.proofs.Laws.{named, rules, length-region, first-byte}
 
 -- the region of group k, and what follows it
 module _ {C : Type 0} (last : Id) (z : List ℕ) where

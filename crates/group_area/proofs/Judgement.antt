@@ -20,9 +20,7 @@ use Rattle.groups.specs.Group.{Group, namesAbove, risingNames, pendingUpTo, isG
 use Rattle.groups.specs.Bytes.{nameField, regionBytes}
 use Rattle.groups.specs.Parse.{nameIn, isRegion, parseRegion, groupIn}
 use Rattle.groups.specs.Area.{mostGroups, namesOf, areGroups, isGroups, parseRegions, parseArea}
-use Rattle.group_area.proofs.Groups.{first}
-use Rattle.group_area.proofs.Read.{parse-free, parse-used, regions-bytes}
-use Rattle.groups.proofs.Laws.{named, empty-before, name-of-field, field-read, rules, tested, region-bytes, first-byte, region-unnamed, zero-no-field, used-not-zero}
+use Rattle.groups.proofs.Laws.{first, parse-free, parse-used, regions-bytes, named, empty-before, name-of-field, field-read, rules, tested, region-bytes, first-byte, region-unnamed, zero-no-field, used-not-zero}
 
 -- so many regions whose names rise above one, test by test as the code does it
 abbrev pub soundRegion : Id → List ℕ → Bool

@@ -13,8 +13,7 @@ use Rattle.id.specs.declared.Id.{Id}
 use Rattle.groups.specs.Group.{Group, isGroup}
 use Rattle.groups.specs.Bytes.{regionBytes}
 use Rattle.groups.specs.Area.{areGroups, regions, areaBytes}
-use Rattle.group_area.proofs.Groups.{First, first, joined, length-regions, regions-append}
-use Rattle.groups.proofs.Laws.{rules, length-region}
+use Rattle.groups.proofs.Laws.{First, first, joined, length-regions, regions-append, rules, length-region}
 
 put-end : (xs ys bs : List ℕ) (at : ℕ) → length xs ≡ at → length bs ≡ length ys → put (xs ++ ys) at bs ≡ xs ++ bs
 put-end xs ys bs at p q =

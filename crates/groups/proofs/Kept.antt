@@ -86,7 +86,7 @@ up-to-put : (d : Id) (q : Pending) (ps : List Pending) → atMost (q .id) d ≡ 
 up-to-put d q ps h e =
     up-to-all d (putPending q ps) ∙ all-put q (λ p. atMost (p .id) d) h ps (sym (up-to-all d ps) ∙ e)
 
-up-to-later : (d e : Id) (ps : List Pending) → atMost d e ≡ true → pendingUpTo d ps ≡ true → pendingUpTo e ps ≡ true
+pub up-to-later : (d e : Id) (ps : List Pending) → atMost d e ≡ true → pendingUpTo d ps ≡ true → pendingUpTo e ps ≡ true
 up-to-later d e ps h k =
     up-to-all e ps
     ∙ all-weaker (λ p. atMost (p .id) d) (λ p. atMost (p .id) e) (λ p x. at-most-trans (p .id) d e x h) ps (sym (up-to-all d ps) ∙ k)

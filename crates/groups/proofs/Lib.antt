@@ -16,3 +16,8 @@ mod Limits
 mod Verdicts
 mod Spots
 mod Searched
+mod Groups
+mod Areas
+mod Listed
+mod Finding
+mod Steps

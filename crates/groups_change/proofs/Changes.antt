@@ -17,7 +17,7 @@ use Rattle.groups.specs.Bytes.{regionBytes}
 use Rattle.groups.specs.Parse.{groupIn}
 use Rattle.groups.specs.Step.{idle, findPending, acknowledge}
 use Rattle.groups.specs.Answer.{SoundRegion, placeOfId, heldAs, heldIn, lacksConsumer}
-use Rattle.groups.proofs.Laws.{Rules, stands, without-absent}
+use Rattle.groups.proofs.Laws.{Rules, stands}
 use Rattle.groups_change.specs.Change.{withPending, withoutAt, deliverAnswer, claimAnswer}
 use Rattle.groups_change.specs.declared.Delivery.the-variants.{Done, Refused}
 use Rattle.groups_change.specs.declared.Claimed.the-variants.{Moved, NotMoved, Refused as ClaimRefused}
@@ -91,10 +91,6 @@ pub acknowledge-found : (i : Id) (g : Group) (p : Pending) → findPending i (g 
     → withPending (withoutAt (placeOfId i (g .pending)) (g .pending)) g ≡ acknowledge i g
 unfolding acknowledge
 acknowledge-found i g p f = ap (λ (l : List Pending). withPending l g) (sym (stands i (g .pending) p f .without))
-
-pub acknowledge-missing : (i : Id) (g : Group) → findPending i (g .pending) ≡ none → g ≡ acknowledge i g
-unfolding acknowledge
-acknowledge-missing i g f = ap (λ (l : List Pending). withPending l g) (sym (without-absent i (g .pending) f))
 
 -- is there room for the consumer?
 pub lacks-known : (c : List ℕ) (g : Group) → isAmong c (g .consumers) ≡ true → lacksConsumer c g ≡ false

@@ -244,6 +244,21 @@ module _ (nm : List ℕ) (d : Id) (k : ℕ) (short : length nm ≤ 16) where
           ∙ sym (front-of (padded 6912 (x ++ r)))
           ∙ ap (λ (l : List ℕ). sixParts (nameField nm) (idBytes d) k fields (le 2 c) (padded 6912 l)) (ap (λ (l : List ℕ). x ++ l) (sym (append-nil r)) ∙ sym (entries-append cs ps (q ∷ [])))
 
+      -- fewer entries, and zeros for those that went
+      pub shape-fewer : (ps qs : List Pending) (z : ℕ) → length qs * 27 + z ≡ length ps * 27 → length ps ≤ 256
+          → put (shape nm d k ns c cs ps) 308 (allPending cs qs ++ zeros z) ≡ shape nm d k ns c cs qs
+      shape-fewer ps qs z h l =
+          let x : List ℕ = allPending cs ps in
+          let y : List ℕ = allPending cs qs in
+          let e : List ℕ = y ++ zeros z in
+          let le-e : length x ≡ length e = omega (arith, length-append y (zeros z), length-replicate {A = ℕ} z 0, length-entries cs ps, length-entries cs qs) in
+          let r : z + (6912 - length x) ≡ 6912 - length y = omega (arith, length-entries cs ps, length-entries cs qs) in
+          ap (λ (l : List ℕ). put l 308 e) (front-of (padded 6912 x))
+          ∙ put-at up-front (padded 6912 x) e 308 length-up-front
+          ∙ ap (λ (l : List ℕ). up-front ++ (e ++ l)) (drop-at x (zeros (6912 - length x)) (length e) le-e)
+          ∙ ap (λ (l : List ℕ). up-front ++ l) (append-assoc y (zeros z) (zeros (6912 - length x)) ∙ ap (λ (l : List ℕ). y ++ l) (replicate-append-replicate {A = ℕ} z (6912 - length x) 0 ∙ ap zeros r))
+          ∙ sym (front-of (padded 6912 y))
+
       -- one of the entries
       module _ (xs : List Pending) (p : Pending) (ys : List Pending) where
         whole : (q : Pending) → padded 6912 (allPending cs (xs ++ (q ∷ ys))) ≡ padded 6912 (allPending cs xs ++ (pendingBytes cs q ++ allPending cs ys)) ++ []

@@ -14,12 +14,13 @@ use Rattle.octets.specs.Bytes.{Bytes, zeros}
 use Rattle.octets.specs.Compare.{allZero}
 use Rattle.octets.proofs.Laws.{zero-all, all-zero, bytes-take, bytes-drop, answered, needed}
 use Rattle.id.specs.declared.Id.{Id}
 use Rattle.groups.specs.Group.{Group}
 use Rattle.groups.specs.Bytes.{regionBytes}
 use Rattle.groups.specs.Parse.{parseRegion}
 use Rattle.groups.specs.Area.{areGroups, isGroups, regions, areaBytes, parseRegions, parseArea}
-use Rattle.group_area.proofs.Groups.{first, sound, not-free, length-regions}
-use Rattle.groups.proofs.Laws.{rules, length-region, region-parse, region-bytes}
+use Rattle.groups.proofs.Groups.{first, sound, not-free, length-regions}
+use Rattle.groups.proofs.Rules.{rules}
+use Rattle.groups.proofs.Regions.{length-region, region-parse, region-bytes}
 
 -- free regions, and one that is used
 module _ (n : ℕ) (s : List ℕ) where
@@ -52,6 +53,9 @@ unfolding areaBytes
 length-area-bytes last gs e h =
     let z : ℕ = 57760 - length gs * 7220 in
     omega (arith, length-append (regions gs) (zeros z), length-regions last gs e, length-replicate {A = ℕ} z 0)
+
+pub length-groups-area : (last : Id) (gs : List Group) → isGroups last gs ≡ true → length (areaBytes gs) ≡ 57760
+length-groups-area last gs e = let r = sound last gs e in length-area-bytes last gs (r .groups) (r .few)
 
 -- the area of groups is read as those groups
 pub area-parse : (last : Id) (gs : List Group) → isGroups last gs ≡ true → parseArea last (areaBytes gs) ≡ some gs

@@ -11,10 +11,12 @@ use Rattle.octets.specs.Pick.{both}
 use Rattle.octets.specs.Compare.{allZero}
 use Rattle.octets.proofs.Laws.{both-true, both-of}
 use Rattle.id.specs.declared.Id.{Id}
 use Rattle.groups.specs.Group.{Group, areNames, namesAbove, risingNames, pendingUpTo, isGroup}
 use Rattle.groups.specs.Bytes.{regionBytes}
 use Rattle.groups.specs.Area.{mostGroups, namesOf, areGroups, isGroups, regions}
-use Rattle.groups.proofs.Laws.{named, rising-above, above-rising, rules, length-region}
+use Rattle.groups.proofs.Names.{named, rising-above, above-rising}
+use Rattle.groups.proofs.Rules.{rules}
+use Rattle.groups.proofs.Regions.{length-region}
 
 -- the first group and the others
 pub record First (last : Id) (g : Group) (gs : List Group) : Type 0 where

@@ -13,13 +13,15 @@ use Rattle.octets.specs.declared.Order.the-variants.{Less, Equal, Greater}
 use Rattle.octets.proofs.Laws.{order-equal, never}
 use Rattle.id.specs.declared.Id.{Id}
 use Rattle.id.specs.Id.{Fits64}
 use Rattle.groups.specs.declared.Spot.the-variants.{Known, New}
 use Rattle.groups.specs.Group.{Group, isName, areNames, namesAbove, isAmong, arePending, pendingAbove, pendingUpTo, isGroup}
 use Rattle.groups.specs.Step.{withName, withoutName, findGroup, putGroup, withoutGroup, newGroup}
 use Rattle.groups.specs.Answer.{spotBy, spotFrom}
 use Rattle.groups.specs.Area.{namesOf, areGroups, isGroups}
-use Rattle.groups.proofs.Laws.{is-group, before-differs, after-differs, with-known, named, empty-before, rules, by-name, greater-before, equal-same, with-equal, with-less, with-greater, above-with, above-without}
-use Rattle.group_area.proofs.Groups.{First, first, joined, sound, are-sound}
+use Rattle.groups.proofs.Rules.{is-group, rules}
+use Rattle.groups.proofs.Names.{before-differs, after-differs, named, empty-before}
+use Rattle.groups.proofs.Consumers.{with-known, by-name, greater-before, equal-same, with-equal, with-less, with-greater, above-with, above-without}
+use Rattle.groups.proofs.Groups.{First, first, joined, sound, are-sound}
 
 pub length-names : (gs : List Group) → length (namesOf gs) ≡ length gs
 length-names [] = refl
