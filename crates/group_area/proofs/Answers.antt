@@ -1,6 +1,6 @@
 -- What each function answers on a sound area, and the area that it leaves. Assumes nothing.
 use mathlib.Core.Path.{_≡_, refl, sym, ap, ap₂, _∙_, subst}
-use mathlib.Core.Bool.{Bool, true, false}
+use mathlib.Core.Bool.{true, false}
 use mathlib.Core.List.{List, [], _∷_, _++_}
 use Prim.Native.Nat.{ℕ, suc, _+_, _-_, _*_, _≤_, _<_}
 use native.Mathlib.Omega.{arith}
@@ -12,19 +12,17 @@ use Rattle.octets.specs.Place.{area, put}
 use Rattle.id.specs.declared.Id.{Id}
 use Rattle.id.specs.Id.{greatest}
 use Rattle.groups.specs.declared.Spot.the-variants.{Known, New}
-use Rattle.groups.specs.Group.{Group, namesAbove, isAmong, isGroup}
+use Rattle.groups.specs.Group.{Group, isAmong, isGroup}
 use Rattle.groups.specs.Bytes.{regionBytes}
 use Rattle.groups.specs.Step.{putGroup, withoutGroup, newGroup}
 use Rattle.groups.specs.Answer.{spotFrom}
 use Rattle.groups.specs.Area.{mostGroups, namesOf, areGroups, areaBytes}
-use Rattle.groups.proofs.Laws.{KnownSpot, known-spot, NewSpot, new-spot}
+use Rattle.groups.proofs.Laws.{known-spot, new-spot, Sound, sound, length-names, StandsAt, stands-at, missing-at}
 use Rattle.group_area.specs.declared.Created.the-variants.{Done as Made, Refused}
 use Rattle.group_area.specs.declared.Destroyed.the-variants.{Done as Gone, Absent}
 use Rattle.group_area.specs.Answer.{groupsIn, SoundArea, createOf, destroyOf}
-use Rattle.group_area.proofs.Groups.{Sound, sound}
 use Rattle.group_area.proofs.Laid.{region-at, region-put, region-out, region-in}
-use Rattle.group_area.proofs.Changed.{length-names, StandsAt, stands-at, Missing, missing-at}
-use Rattle.group_area.proofs.Found.{UsedRegion, used-region, free-region}
+use Rattle.group_area.proofs.Found.{used-region, free-region}
 
 module _ (s : List ℕ) (h : SoundArea s) where
   abbrev gs : List Group

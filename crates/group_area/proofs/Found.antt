@@ -2,16 +2,15 @@
 use mathlib.Core.Path.{_≡_, refl, sym, ap, ap₂, _∙_, subst}
 use mathlib.Core.Bool.{Bool, true, false}
 use mathlib.Core.List.{List, [], _∷_, _++_, append-assoc}
-use mathlib.Core.Option.{Option, some, none}
 use Prim.Native.Nat.{ℕ, zero, suc, _+_, _-_, _*_, _≤_, _<_}
 use native.Mathlib.Numerals.{add-one}
 use native.Mathlib.Omega.{arith}
 use lib.Dec.{ltb}
-use lib.ListN.{length, take, drop, getD, length-append, drop-of-length-le}
-use lib.Seq.{drop-at, drop-drop, drop-cons, getD-append-add, getD-drop}
+use lib.ListN.{length, drop, getD, drop-of-length-le}
+use lib.Seq.{drop-at, drop-drop, drop-cons, getD-append-add}
 use borrow.Author.Tests.{ltb-true, ltb-false}
-use Rattle.octets.specs.Bytes.{Bytes, zeros}
-use Rattle.octets.specs.Place.{area, put}
+use Rattle.octets.specs.Bytes.{zeros}
+use Rattle.octets.specs.Place.{area}
 use Rattle.octets.specs.Compare.{orderOf}
 use Rattle.octets.specs.declared.Order.the-variants.{Less, Equal, Greater}
 use Rattle.id.specs.declared.Id.{Id}
@@ -21,16 +20,10 @@ use Rattle.groups.specs.Group.{Group, isGroup}
 use Rattle.groups.specs.Bytes.{regionBytes}
 use Rattle.groups.specs.Parse.{nameIn}
 use Rattle.groups.specs.Answer.{spotFrom}
-use Rattle.groups.specs.Area.{namesOf, areGroups, isGroups, regions, areaBytes}
-use Rattle.groups.proofs.Names.{named}
-use Rattle.groups.proofs.Rules.{rules}
-use Rattle.groups.proofs.Regions.{length-region}
-use Rattle.groups.proofs.Turns.{first-byte}
+use Rattle.groups.specs.Area.{namesOf, areGroups, regions, areaBytes}
 use Rattle.group_area.specs.Answer.{groupsIn, SoundArea}
-use Rattle.group_area.proofs.Groups.{First, first, Sound, sound, length-regions}
-use Rattle.group_area.proofs.Read.{length-area-bytes}
+use Rattle.groups.proofs.Laws.{first, Sound, sound, length-regions, length-area-bytes, length-names, named, rules, length-region, first-byte}
 use Rattle.group_area.proofs.Judgement.{name-first}
-use Rattle.group_area.proofs.Changed.{length-names}
 
 -- the region of group k, and what follows it
 module _ {C : Type 0} (last : Id) (z : List ℕ) where

@@ -1,19 +1,18 @@
 -- The region of a new group: its name and start ID, and zeros. Assumes nothing.
-use mathlib.Core.Path.{_≡_, refl, sym, ap, ap₂, _∙_}
+use mathlib.Core.Path.{_≡_, refl, sym, ap, _∙_}
 use mathlib.Core.List.{List, [], _∷_, _++_, append-assoc}
 use Prim.Native.Nat.{ℕ, suc, _+_, _-_, _≤_, _<_}
 use native.Mathlib.Omega.{arith}
-use lib.ListN.{length, set, length-append, length-replicate, replicate-append-replicate}
+use lib.ListN.{length, set, length-replicate, replicate-append-replicate}
 use Rattle.octets.specs.Bytes.{le, zeros}
 use Rattle.octets.specs.Place.{put}
-use Rattle.octets.proofs.Laws.{put-all, put-append, set-put}
+use Rattle.octets.proofs.Laws.{put-all, put-append, set-put, put-middle}
 use Rattle.id.specs.declared.Id.{Id}
 use Rattle.id.specs.Bytes.{idBytes}
 use Rattle.id.proofs.Laws.{length-id-bytes}
 use Rattle.groups.specs.Bytes.{nameBytes, nameField, padded, allNameFields, allPending, regionBytes}
 use Rattle.groups.specs.Step.{newGroup}
 use Rattle.groups.proofs.Laws.{length-field}
-use Rattle.group_area.proofs.Laid.{put-middle}
 
 zeros-split : (m n : ℕ) → zeros (m + n) ≡ zeros m ++ zeros n
 zeros-split m n = sym (replicate-append-replicate {A = ℕ} m n 0)

@@ -8,22 +8,12 @@ use lib.ListN.{length, take, drop, length-append, length-replicate, replicate-ap
 use lib.Seq.{take-at, drop-at, take-append-add, drop-append-add}
 use Rattle.octets.specs.Bytes.{zeros}
 use Rattle.octets.specs.Place.{area, put}
-use Rattle.octets.proofs.Laws.{put-append, put-swap, area-middle, area-right, part-area}
+use Rattle.octets.proofs.Laws.{put-append, put-swap, area-middle, area-right, put-middle}
 use Rattle.id.specs.declared.Id.{Id}
 use Rattle.groups.specs.Group.{Group, isGroup}
 use Rattle.groups.specs.Bytes.{regionBytes}
 use Rattle.groups.specs.Area.{areGroups, regions, areaBytes}
-use Rattle.groups.proofs.Rules.{rules}
-use Rattle.groups.proofs.Regions.{length-region}
-use Rattle.group_area.proofs.Groups.{First, first, joined, length-regions, regions-append}
-
--- bytes put over as many
-pub put-middle : (xs ys zs bs : List ℕ) (at : ℕ) → length xs ≡ at → length bs ≡ length ys → put (xs ++ (ys ++ zs)) at bs ≡ xs ++ (bs ++ zs)
-unfolding put
-put-middle xs ys zs bs at p q =
-    let n : length (xs ++ ys) ≡ at + length bs = length-append xs ys ∙ ap₂ (λ (a b : ℕ). a + b) p (sym q) in
-    ap₂ (λ (a b : List ℕ). a ++ (bs ++ b)) (take-at xs (ys ++ zs) at p)
-    (ap (drop (at + length bs)) (sym (append-assoc xs ys zs)) ∙ drop-at (xs ++ ys) zs (at + length bs) n)
+use Rattle.groups.proofs.Laws.{First, first, joined, length-regions, regions-append, rules, length-region}
 
 put-end : (xs ys bs : List ℕ) (at : ℕ) → length xs ≡ at → length bs ≡ length ys → put (xs ++ ys) at bs ≡ xs ++ bs
 put-end xs ys bs at p q =

@@ -1,9 +1,7 @@
+-- What other crates cite is in Laws, and nothing else.
 pub mod Laws
-mod Groups
-mod Read
 mod Judgement
 mod Laid
-mod Changed
 mod Found
 mod Fresh
 mod Answers

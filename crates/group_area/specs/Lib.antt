@@ -1,2 +1,3 @@
--- Read in this order.
+-- To be believed: what each function answers and leaves, and the numbers of its answers.
 pub mod Answer
+pub mod Number

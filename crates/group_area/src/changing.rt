@@ -4,7 +4,8 @@ ghost use mathlib.Core.Path.{_≡_};
 ghost use Prim.Native.Nat.{_≤_};
 ghost use lib.ListN.{length};
 ghost use Rattle.groups.specs.declared.Spot.the-variants.{New};
-ghost use Rattle.groups.specs.Bytes.{regionBytes};
+ghost use Rattle.groups.specs.Group.{longestName};
+ghost use Rattle.groups.specs.Bytes.{regionBytes, regionSize};
 ghost use Rattle.groups.specs.Step.{newGroup};
 ghost use Rattle.groups.specs.Answer.{spotFrom};
 ghost use Rattle.groups.specs.Area.{namesOf};
@@ -12,7 +13,8 @@ ghost use Rattle.group_area.specs.Answer.{groupsIn, SoundArea, createOf,
 use crate::Created;
 use crate::Destroyed;
 use crate::finding::spot_of;
-use crate::judging::REGION_BYTES;
+use groups::DELIVERED_AT;
+use groups::REGION_BYTES;
 use groups::Spot;
 use id::Id;
 
@@ -20,18 +22,18 @@ use id::Id;
 const LAST_REGION: usize = 50540;
 
 fn write_new(r: &mut [u8], name: &[u8], start: Id)
-    requires { ⌜ (length (now r) ≡ 7220) × (length (now name) ≤ 16) ⌝ }
+    requires { ⌜ (length (now r) ≡ regionSize) × (length (now name) ≤ longestName) ⌝ }
     ensures { λ _. ⌜ now (r .exit) ≡ regionBytes (newGroup (now (name .entry)) start) ⌝ }
 {
     octets::zero(r, 0, REGION_BYTES);
     r[0] = name.len() as u8;
     octets::copy_in(r, 1, name);
-    id::write_id(r, 17, start);
+    id::write_id(r, DELIVERED_AT, start);
 }
 
 // At the region that the name would get.
 fn create_at(s: &mut [u8], k: usize, name: &[u8], start: Id) -> Created
-    requires { ⌜ SoundArea (now s) × (1 ≤ length (now name)) × (length (now name) ≤ 16) × (spotFrom 0 (now name) (namesOf (groupsIn (now s))) ≡ New k) ⌝ }
+    requires { ⌜ SoundArea (now s) × (1 ≤ length (now name)) × (length (now name) ≤ longestName) × (spotFrom 0 (now name) (namesOf (groupsIn (now s))) ≡ New k) ⌝ }
     ensures { λ r. ⌜ (r ≡ createOf (now (name .entry)) (groupsIn (now (s .entry)))) × (now (s .exit) ≡ createdBytes r (now (name .entry)) start (now (s .entry))) ⌝ }
 {
     if s[LAST_REGION] != 0 {
@@ -44,7 +46,7 @@ fn create_at(s: &mut [u8], k: usize, name: &[u8], start: Id) -> Created
 }
 
 pub fn create(s: &mut [u8], name: &[u8], start: Id) -> Created
-    requires { ⌜ SoundArea (now s) × (1 ≤ length (now name)) × (length (now name) ≤ 16) ⌝ }
+    requires { ⌜ SoundArea (now s) × (1 ≤ length (now name)) × (length (now name) ≤ longestName) ⌝ }
     ensures { λ r. ⌜ (r ≡ createOf (now (name .entry)) (groupsIn (now (s .entry)))) × (now (s .exit) ≡ createdBytes r (now (name .entry)) start (now (s .entry))) ⌝ }
 {
     match spot_of(s, name) {

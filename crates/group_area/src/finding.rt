@@ -4,9 +4,9 @@ ghost use mathlib.Core.Path.{_≡_};
 ghost use Rattle.groups.specs.Answer.{spotFrom, placeIn};
 ghost use Rattle.groups.specs.Area.{namesOf};
 ghost use Rattle.group_area.specs.Answer.{groupsIn, SoundArea};
-use crate::judging::AREA_BYTES;
-use crate::judging::REGION_BYTES;
+use crate::AREA_BYTES;
 use groups::Place;
+use groups::REGION_BYTES;
 use groups::Spot;
 use octets::Order;
 

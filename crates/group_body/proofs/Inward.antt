@@ -1,7 +1,7 @@
 -- The parts of a body that make the region: its name, its last delivered ID and number of consumers, their names, its entries.
 -- Assumes nothing.
 use mathlib.Core.Path.{_≡_, refl, sym, ap, ap₂, _∙_, subst}
-use mathlib.Core.Bool.{Bool, true, false, not}
+use mathlib.Core.Bool.{true, false, not}
 use mathlib.Core.List.{List, [], _∷_, _++_, append-assoc}
 use mathlib.Core.Option.{Option, some, none}
 use Prim.Native.Nat.{ℕ, zero, suc, _+_, _-_, _*_, _≤_, _<_}
@@ -14,24 +14,17 @@ use Rattle.octets.specs.Pick.{both}
 use Rattle.octets.specs.Maybe.{isNone}
 use Rattle.octets.specs.Bytes.{Bytes, le, zeros}
 use Rattle.octets.specs.Place.{area, put}
-use Rattle.octets.proofs.Laws.{both-true, length-le, area-first, area-left, area-middle, length-area, getD-area, put-append, put-all}
+use Rattle.octets.proofs.Laws.{both-true, length-le, area-first, area-left, area-middle, length-area, getD-area, put-append, put-all, both-of}
 use Rattle.id.specs.Bytes.{idBytes}
 use Rattle.id.proofs.Laws.{length-id-bytes}
 use Rattle.groups.specs.Group.{Group, isName, areNames, isGroup}
 use Rattle.groups.specs.Bytes.{nameBytes, nameField, allNames, allNameFields, allPending, padded, bodyBytes, regionBytes}
 use Rattle.groups.specs.Parse.{nameIn, groupIn, parseBody}
 use Rattle.groups.specs.Answer.{SoundRegion}
-use Rattle.groups.proofs.Tools.{both-of}
-use Rattle.groups.proofs.Names.{Named, named}
-use Rattle.groups.proofs.Fields.{length-field, length-fields}
-use Rattle.groups.proofs.Rules.{Rules, rules}
-use Rattle.groups.proofs.Regions.{length-region, group-of-region}
-use Rattle.groups.proofs.Bodies.{body-parse, BodyRead, body-bytes}
-use Rattle.groups.proofs.Parts.{length-padded}
-use Rattle.groups.proofs.Turns.{first-byte, name-at}
 use Rattle.group_body.specs.Answer.{isNameAt, namesAt, areNamesAt, readInto}
-use Rattle.group_body.proofs.Packed.{NameStands, name-stands}
+use Rattle.group_body.proofs.Packed.{name-stands}
 use Rattle.group_body.proofs.Outward.{four-puts, length-body, body-parts}
+use Rattle.groups.proofs.Laws.{named, length-field, length-fields, Rules, rules, length-region, group-of-region, body-parse, body-bytes, length-padded, first-byte, name-at}
 
 -- names at a place
 names-step : (s : List ℕ) (left i n : ℕ) → 0 < left → n ≡ 1 + getD s i 0 → namesAt left (drop i s) ≡ nameIn (drop i s) ∷ namesAt (left - 1) (drop (i + n) s)

@@ -1,7 +1,7 @@
 -- The parts of a region that make the body: its name, its last delivered ID and number of consumers, their names, its entries.
 -- Assumes nothing.
 use mathlib.Core.Path.{_≡_, refl, sym, ap, ap₂, _∙_, subst}
-use mathlib.Core.Bool.{Bool, true}
+use mathlib.Core.Bool.{true}
 use mathlib.Core.List.{List, [], _∷_, _++_, append-assoc}
 use Prim.Native.Nat.{ℕ, zero, suc, _+_, _-_, _*_, _≤_, _<_}
 use native.Mathlib.Omega.{arith}
@@ -16,12 +16,7 @@ use Rattle.groups.specs.Group.{Group, isName, areNames}
 use Rattle.groups.specs.Bytes.{nameBytes, nameField, allNames, allNameFields, allPending, padded, bodyBytes, regionBytes}
 use Rattle.groups.specs.Parse.{nameIn, namesIn, groupIn}
 use Rattle.groups.specs.Answer.{SoundRegion}
-use Rattle.groups.proofs.Names.{Named, named}
-use Rattle.groups.proofs.Fields.{length-field, length-fields}
-use Rattle.groups.proofs.Entries.{length-entries}
-use Rattle.groups.proofs.Rules.{Rules, rules}
-use Rattle.groups.proofs.Parts.{length-padded, part-delivered, part-count, part-number, part-entries}
-use Rattle.groups.proofs.Turns.{name-at}
+use Rattle.groups.proofs.Laws.{named, length-field, length-fields, length-entries, Rules, rules, length-padded, part-delivered, part-count, part-number, part-entries, name-at}
 
 -- a body in four parts
 pub body-parts : (g : Group)

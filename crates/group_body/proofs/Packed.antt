@@ -12,15 +12,12 @@ use lib.Seq.{drop-drop, length-take-le}
 use borrow.Author.Tests.{leb-true, le-leb, lt-leb, leb-false, ne-eqb}
 use Rattle.octets.specs.Pick.{pick, both}
 use Rattle.octets.specs.Maybe.{_>>=_, _>>_, need}
-use Rattle.octets.specs.Bytes.{Bytes}
 use Rattle.octets.specs.Place.{Taken, area, takeBytes}
 use Rattle.octets.proofs.Laws.{both-true}
-use Rattle.groups.specs.Group.{nameBefore}
 use Rattle.groups.specs.Parse.{nameIn, takeName, TakenNames, takeNames}
-use Rattle.groups.proofs.Names.{Named}
-use Rattle.groups.proofs.Turns.{first-byte}
-use Rattle.groups.proofs.Bodies.{taken, takenNames}
 use Rattle.group_body.specs.Answer.{isNameAt, namesAt, nameEnd, namesEnd}
+use Rattle.octets.specs.Compare.{comesBefore}
+use Rattle.groups.proofs.Laws.{first-byte, taken, takenNames}
 
 need-both : {A : Type 0} (a b : Bool) (x : Option A) → (need a >> (need b >> x)) ≡ (need (both a b) >> x)
 need-both true b x = refl
@@ -65,7 +62,7 @@ name-stands s e =
 -- where a name ends
 module _ (above : List ℕ) (at : ℕ) (s : List ℕ) where
   abbrev passes : Bool
-  passes = both (isNameAt (drop at s)) (nameBefore above (nameIn (drop at s)))
+  passes = both (isNameAt (drop at s)) (comesBefore above (nameIn (drop at s)))
 
   pub end-none : passes ≡ false → nameEnd above at s ≡ 0
   unfolding nameEnd
@@ -101,12 +98,12 @@ module _ (above : List ℕ) (at n : ℕ) (s : List ℕ)
   x = getD (drop at s) 0 0
 
   opened : takeNames above (suc n) l
-      ≡ ((need (isNameAt l) >> some (taken (nameIn l) (drop (1 + x) l))) >>= λ y. need (nameBefore above (y .bytes)) >> more (y .bytes) (takeNames (y .bytes) n (y .rest)))
+      ≡ ((need (isNameAt l) >> some (taken (nameIn l) (drop (1 + x) l))) >>= λ y. need (comesBefore above (y .bytes)) >> more (y .bytes) (takeNames (y .bytes) n (y .rest)))
   unfolding takeNames
-  opened = ap (λ (o : Option Taken). o >>= λ y. need (nameBefore above (y .bytes)) >> more (y .bytes) (takeNames (y .bytes) n (y .rest))) (take-name l)
+  opened = ap (λ (o : Option Taken). o >>= λ y. need (comesBefore above (y .bytes)) >> more (y .bytes) (takeNames (y .bytes) n (y .rest))) (take-name l)
 
-  by-tests : (t u : Bool) → isNameAt l ≡ t → nameBefore above (nameIn l) ≡ u
-      → ((need t >> some (taken (nameIn l) (drop (1 + x) l))) >>= λ y. need (nameBefore above (y .bytes)) >> more (y .bytes) (takeNames (y .bytes) n (y .rest)))
+  by-tests : (t u : Bool) → isNameAt l ≡ t → comesBefore above (nameIn l) ≡ u
+      → ((need t >> some (taken (nameIn l) (drop (1 + x) l))) >>= λ y. need (comesBefore above (y .bytes)) >> more (y .bytes) (takeNames (y .bytes) n (y .rest)))
       ≡ namesBy (namesEnd above at (suc n) s) (nameIn l ∷ namesAt n (drop (1 + x) l)) s
   by-tests false u p q =
       let e : nameEnd above at s ≡ 0 = end-none above at s (rw p) in
@@ -127,7 +124,7 @@ module _ (above : List ℕ) (at n : ℕ) (s : List ℕ)
 
   by-name : takeNames above (suc n) l ≡ namesBy (namesEnd above at (suc n) s) (namesAt (suc n) l) s
   unfolding namesAt
-  by-name = opened ∙ by-tests (isNameAt l) (nameBefore above (nameIn l)) refl refl
+  by-name = opened ∙ by-tests (isNameAt l) (comesBefore above (nameIn l)) refl refl
 
 pub take-names : (above : List ℕ) (n : ℕ) (s : List ℕ) (at : ℕ) → 1 ≤ at
     → takeNames above n (drop at s) ≡ namesBy (namesEnd above at n s) (namesAt n (drop at s)) s

@@ -13,18 +13,16 @@ use Rattle.octets.specs.Pick.{pick, both}
 use Rattle.octets.specs.Maybe.{_>>=_, _>>_, need, isNone}
 use Rattle.octets.specs.Bytes.{leValue}
 use Rattle.octets.specs.Place.{Taken, area, takeBytes}
-use Rattle.octets.proofs.Laws.{both-true, area-first, area-none}
+use Rattle.octets.proofs.Laws.{both-true, area-first, area-none, area-drop, needed-some}
 use Rattle.id.specs.declared.Id.{Id}
 use Rattle.id.specs.Id.{least}
 use Rattle.id.specs.Bytes.{idFrom}
-use Rattle.groups.specs.Group.{Group, nameBefore}
-use Rattle.groups.specs.Parse.{nameIn, areEntries, takeName, TakenNames, takeNames, parseBody}
-use Rattle.groups.proofs.Tools.{area-drop}
-use Rattle.groups.proofs.Names.{empty-before}
-use Rattle.groups.proofs.Turns.{first-byte, name-at}
-use Rattle.groups.proofs.Bodies.{taken, takenNames, value-one}
+use Rattle.groups.specs.Group.{Group}
+use Rattle.groups.specs.Parse.{nameIn, areEntries, takeName, takeNames, parseBody}
 use Rattle.group_body.specs.Answer.{isNameAt, namesAt, nameEnd, namesEnd, entriesEnd}
-use Rattle.group_body.proofs.Packed.{take-name, NameStands, name-stands, end-none, end-some, namesBy, take-names}
+use Rattle.group_body.proofs.Packed.{take-name, name-stands, end-none, end-some, namesBy, take-names}
+use Rattle.octets.specs.Compare.{comesBefore}
+use Rattle.groups.proofs.Laws.{empty-before, first-byte, name-at, taken, takenNames, value-one}
 
 -- a name at a place
 module _ (above : List ℕ) (at n : ℕ) (s : List ℕ) (e : n ≡ getD s at 0) where
@@ -50,10 +48,10 @@ module _ (above : List ℕ) (at n : ℕ) (s : List ℕ) (e : n ≡ getD s at 0) 
         whole : isNameAt (drop at s) ≡ true
         whole = opened ∙ rw (le-leb 1 n h, le-leb n 16 k, le-leb (1 + n) (length s - at) (omega arith))
 
-        pub end-low : nameBefore above (nameIn (drop at s)) ≡ false → nameEnd above at s ≡ 0
+        pub end-low : comesBefore above (nameIn (drop at s)) ≡ false → nameEnd above at s ≡ 0
         end-low f = end-none above at s (rw (whole, f))
 
-        pub end-name : nameBefore above (nameIn (drop at s)) ≡ true → nameEnd above at s ≡ at + 1 + n
+        pub end-name : comesBefore above (nameIn (drop at s)) ≡ true → nameEnd above at s ≡ at + 1 + n
         end-name f = end-some above at s (rw (whole, f)) ∙ ap (λ (i : ℕ). at + 1 + i) (sym e)
 
 -- a name that was found
@@ -62,12 +60,12 @@ pub record Ends (above : List ℕ) (at : ℕ) (s : List ℕ) : Type 0 where
   pub end : nameEnd above at s ≡ at + 1 + getD s at 0
 
 module _ (above : List ℕ) (at : ℕ) (s : List ℕ) where
-  ends-case : (t : Bool) → both (isNameAt (drop at s)) (nameBefore above (nameIn (drop at s))) ≡ t → (nameEnd above at s ≡ 0 → ⊥) → Ends above at s
+  ends-case : (t : Bool) → both (isNameAt (drop at s)) (comesBefore above (nameIn (drop at s))) ≡ t → (nameEnd above at s ≡ 0 → ⊥) → Ends above at s
   ends-case false e n = absurd (n (end-none above at s e))
-  ends-case true e n = record { stands = both-true (isNameAt (drop at s)) (nameBefore above (nameIn (drop at s))) e .0; end = end-some above at s e }
+  ends-case true e n = record { stands = both-true (isNameAt (drop at s)) (comesBefore above (nameIn (drop at s))) e .0; end = end-some above at s e }
 
   pub ends : (nameEnd above at s ≡ 0 → ⊥) → Ends above at s
-  ends n = ends-case (both (isNameAt (drop at s)) (nameBefore above (nameIn (drop at s)))) refl n
+  ends n = ends-case (both (isNameAt (drop at s)) (comesBefore above (nameIn (drop at s)))) refl n
 
   -- names that are left
   names-step : (left : ℕ) → 0 < left
@@ -121,10 +119,6 @@ module _ (consumers : ℕ) (most : Id) (at : ℕ) (s : List ℕ) where
           rw (length-drop at s, le-leb 2 (length s - at) h, number-at, ← e, le-leb n 256 k, rest-size, eq-eqb (length s - at - 2) (n * 27) m)
           (ap (areEntries consumers least most n) (drop-drop 2 at s))
 
-needed-some : {A : Type 0} (t : Bool) (a : A) → not (isNone (need t >> some a)) ≡ t
-needed-some true a = refl
-needed-some false a = refl
-
 needed-more : {A : Type 0} (t u : Bool) (o : Option A) → not (isNone o) ≡ u → not (isNone (need t >> o)) ≡ both t u
 needed-more true u o e = e
 needed-more false u o e = refl
@@ -165,7 +159,7 @@ module _ (s : List ℕ) where
   unnamed-case false e z = take-name s ∙ rw e
   unnamed-case true e z =
       let x = name-stands s e in
-      let b : nameBefore [] (nameIn s) ≡ true = empty-before (nameIn s) (omega (arith, x .size, x .some-bytes)) in
+      let b : comesBefore [] (nameIn s) ≡ true = empty-before (nameIn s) (omega (arith, x .size, x .some-bytes)) in
       let q : nameEnd [] 0 s ≡ 0 + 1 + getD s 0 0 = end-some [] 0 s (rw (e, b)) in
       absurd (omega arith)
 

@@ -10,9 +10,10 @@ use Rattle.octets.specs.Bytes.{leValue}
 use Rattle.octets.specs.Place.{area}
 use Rattle.id.specs.declared.Id.{Id}
 use Rattle.id.specs.Id.{least}
-use Rattle.groups.specs.Group.{Group, longestName, mostPending, nameBefore}
+use Rattle.groups.specs.Group.{Group, longestName, mostPending}
 use Rattle.groups.specs.Bytes.{entryBytes, regionBytes}
 use Rattle.groups.specs.Parse.{nameIn, areEntries}
+use Rattle.octets.specs.Compare.{comesBefore}
 
 -- a body that is read: the region has the group's bytes, or its own where there is none
 abbrev pub readInto : Option Group → List ℕ → List ℕ
@@ -34,7 +35,7 @@ areNamesAt (suc n) s = both (isNameAt s) (areNamesAt n (drop (1 + getD s 0 0) s)
 
 -- where the name at a place ends, or 0 if there is none above one
 unfoldable pub nameEnd : List ℕ → ℕ → List ℕ → ℕ
-nameEnd above at s = pick (both (isNameAt (drop at s)) (nameBefore above (nameIn (drop at s)))) (at + 1 + getD s at 0) 0
+nameEnd above at s = pick (both (isNameAt (drop at s)) (comesBefore above (nameIn (drop at s)))) (at + 1 + getD s at 0) 0
 
 -- where so many names at a place end, rising above one, or 0
 unfoldable pub namesEnd : List ℕ → ℕ → ℕ → List ℕ → ℕ

@@ -1,2 +1,2 @@
--- Read in this order.
+-- What each function answers; of it only readInto has to be believed, the others describe the walk over a body's names and entries.
 pub mod Answer

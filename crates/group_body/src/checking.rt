@@ -9,8 +9,11 @@ ghost use Rattle.octets.specs.Maybe.{isNone};
 ghost use Rattle.octets.specs.Place.{area};
 ghost use Rattle.groups.specs.Parse.{parseBody};
 ghost use Rattle.group_body.specs.Answer.{nameEnd, namesEnd, entriesEnd};
+use groups::ENTRY_BYTES;
+use groups::LONGEST_NAME;
+use groups::MOST_CONSUMERS;
+use groups::MOST_PENDING;
 use id::Id;
-use octets::Order;
 
 // Where the name at a place ends. It is above the one of size bytes that lies at from.
 fn name_end(s: &[u8], from: usize, size: usize, at: usize) -> usize
@@ -24,17 +27,16 @@ fn name_end(s: &[u8], from: usize, size: usize, at: usize) -> usize
     if n < 1 {
         return 0;
     }
-    if 16 < n {
+    if LONGEST_NAME < n {
         return 0;
     }
     if s.len() - at - 1 < n {
         return 0;
     }
-    match octets::compare(&s[from..from + size], &s[at + 1..at + 1 + n]) {
-        Order::Less => at + 1 + n,
-        Order::Equal => 0,
-        Order::Greater => 0,
+    if !octets::comes_before(&s[from..from + size], &s[at + 1..at + 1 + n]) {
+        return 0;
     }
+    at + 1 + n
 }
 
 // Where so many rising names at a place end.
@@ -68,10 +70,10 @@ fn entries_end(s: &[u8], at: usize, consumers: usize, most: Id) -> bool
         return false;
     }
     let n = octets::read_le(s, at, 2) as usize;
-    if 256 < n {
+    if MOST_PENDING < n {
         return false;
     }
-    if s.len() - at - 2 != n * 27 {
+    if s.len() - at - 2 != n * ENTRY_BYTES {
         return false;
     }
     groups::entries_rise(s, at + 2, n, consumers, most)
@@ -88,7 +90,7 @@ pub fn check_body(s: &[u8]) -> bool
         return false;
     }
     let k = octets::wide(s[a + 16]) as usize;
-    if 16 < k {
+    if MOST_CONSUMERS < k {
         return false;
     }
     let b = names_end(s, a + 17, k);

@@ -6,10 +6,18 @@ ghost use Prim.Native.Nat.{_+_, _≤_};
 ghost use lib.ListN.{length, drop};
 ghost use Rattle.octets.specs.Maybe.{isNone};
 ghost use Rattle.octets.specs.Place.{put};
-ghost use Rattle.groups.specs.Bytes.{padded, allNames, allNameFields};
+ghost use Rattle.groups.specs.Group.{mostConsumers};
+ghost use Rattle.groups.specs.Bytes.{padded, allNames, allNameFields, regionSize, fieldsAt, consumersBytes};
 ghost use Rattle.groups.specs.Parse.{parseBody};
 ghost use Rattle.group_body.specs.Answer.{readInto, namesAt, areNamesAt};
 use crate::checking::check_body;
+use groups::DELIVERED_AT;
+use groups::FIELD_BYTES;
+use groups::FIELDS_AT;
+use groups::PENDING_AT;
+
+// The last part of a region: the number of entries and their room.
+const LAST_BYTES: usize = 6914;
 
 fn copy_padded(d: &mut [u8], at: usize, s: &[u8], room: usize)
     requires { ⌜ (length (now s) ≤ room) × (at + room ≤ length (now d)) ⌝ }
@@ -21,37 +29,37 @@ fn copy_padded(d: &mut [u8], at: usize, s: &[u8], room: usize)
 
 // So many names at a place go to the fields of the consumers. The answer is the place after the names.
 fn read_names(s: &[u8], at: usize, count: usize, region: &mut [u8]) -> usize
-    requires { ⌜ (length (now region) ≡ 7220) × (count ≤ 16) × (at ≤ length (now s)) × (areNamesAt count (drop at (now s)) ≡ true) ⌝ }
-    ensures { λ r. ⌜ (r ≡ at + length (allNames (namesAt count (drop at (now (s .entry)))))) × (now (region .exit) ≡ put (now (region .entry)) 34 (padded 272 (allNameFields (namesAt count (drop at (now (s .entry))))))) ⌝ }
+    requires { ⌜ (length (now region) ≡ regionSize) × (count ≤ mostConsumers) × (at ≤ length (now s)) × (areNamesAt count (drop at (now s)) ≡ true) ⌝ }
+    ensures { λ r. ⌜ (r ≡ at + length (allNames (namesAt count (drop at (now (s .entry)))))) × (now (region .exit) ≡ put (now (region .entry)) fieldsAt (padded consumersBytes (allNameFields (namesAt count (drop at (now (s .entry))))))) ⌝ }
 {
     let mut i = at;
-    let mut to = 34;
+    let mut to = FIELDS_AT;
     let mut left = count;
     while 0 < left {
         let n = 1 + octets::wide(s[i]) as usize;
-        copy_padded(region, to, &s[i..i + n], 17);
+        copy_padded(region, to, &s[i..i + n], FIELD_BYTES);
         i += n;
-        to += 17;
+        to += FIELD_BYTES;
         left -= 1;
     }
-    octets::zero(region, to, 306 - to);
+    octets::zero(region, to, PENDING_AT - to);
     i
 }
 
 // The body's name, the bytes from its last delivered ID to its number of consumers, their names, and the rest.
 fn fill_region(s: &[u8], region: &mut [u8])
-    requires { ⌜ (length (now region) ≡ 7220) × (not (isNone (parseBody (now s))) ≡ true) ⌝ }
+    requires { ⌜ (length (now region) ≡ regionSize) × (not (isNone (parseBody (now s))) ≡ true) ⌝ }
     ensures { λ _. ⌜ now (region .exit) ≡ readInto (parseBody (now (s .entry))) (now (region .entry)) ⌝ }
 {
     let n = 1 + octets::wide(s[0]) as usize;
-    copy_padded(region, 0, &s[0..n], 17);
-    octets::copy_in(region, 17, &s[n..n + 17]);
+    copy_padded(region, 0, &s[0..n], FIELD_BYTES);
+    octets::copy_in(region, DELIVERED_AT, &s[n..n + 17]);
     let end = read_names(s, n + 17, octets::wide(s[n + 16]) as usize, region);
-    copy_padded(region, 306, &s[end..s.len()], 6914);
+    copy_padded(region, PENDING_AT, &s[end..s.len()], LAST_BYTES);
 }
 
 pub fn read_body(s: &[u8], region: &mut [u8]) -> bool
-    requires { ⌜ length (now region) ≡ 7220 ⌝ }
+    requires { ⌜ length (now region) ≡ regionSize ⌝ }
     ensures { λ r. ⌜ (r ≡ not (isNone (parseBody (now (s .entry))))) × (now (region .exit) ≡ readInto (parseBody (now (s .entry))) (now (region .entry))) ⌝ }
 {
     if !check_body(s) {

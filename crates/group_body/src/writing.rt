@@ -5,20 +5,25 @@ ghost use mathlib.Core.Path.{_≡_};
 ghost use Prim.Native.Nat.{_+_, _≤_};
 ghost use lib.ListN.{length};
 ghost use Rattle.octets.specs.Place.{put};
-ghost use Rattle.groups.specs.Bytes.{allNames, bodyBytes};
+ghost use Rattle.groups.specs.Bytes.{allNames, bodyBytes, consumersBytes, regionSize};
 ghost use Rattle.groups.specs.Parse.{groupIn};
 ghost use Rattle.groups.specs.Answer.{SoundRegion};
+use groups::DELIVERED_AT;
+use groups::ENTRY_BYTES;
+use groups::FIELD_BYTES;
+use groups::FIELDS_AT;
+use groups::PENDING_AT;
 
 fn names_size(region: &[u8]) -> usize
     requires { ⌜ SoundRegion (now region) ⌝ }
-    ensures { λ r. ⌜ (r ≡ length (allNames (groupIn (now (region .entry)) .consumers))) × (r ≤ 272) ⌝ }
+    ensures { λ r. ⌜ (r ≡ length (allNames (groupIn (now (region .entry)) .consumers))) × (r ≤ consumersBytes) ⌝ }
 {
     let mut size = 0;
-    let mut i = 34;
+    let mut i = FIELDS_AT;
     let mut left = groups::consumer_count(region);
     while 0 < left {
         size += 1 + octets::wide(region[i]) as usize;
-        i += 17;
+        i += FIELD_BYTES;
         left -= 1;
     }
     size
@@ -26,11 +31,11 @@ fn names_size(region: &[u8]) -> usize
 
 pub fn body_size(region: &[u8]) -> usize
     requires { ⌜ SoundRegion (now region) ⌝ }
-    ensures { λ r. ⌜ (r ≡ length (bodyBytes (groupIn (now (region .entry))))) × (r ≤ 7220) ⌝ }
+    ensures { λ r. ⌜ (r ≡ length (bodyBytes (groupIn (now (region .entry))))) × (r ≤ regionSize) ⌝ }
 {
     let n = octets::wide(region[0]) as usize;
     let names = names_size(region);
-    n + 20 + names + groups::pending_count(region) * 27
+    n + 20 + names + groups::pending_count(region) * ENTRY_BYTES
 }
 
 // The answer is the place after the names.
@@ -39,13 +44,13 @@ fn write_names(region: &[u8], d: &mut [u8], at: usize) -> usize
     ensures { λ r. ⌜ (r ≡ at + length (allNames (groupIn (now (region .entry)) .consumers))) × (now (d .exit) ≡ put (now (d .entry)) at (allNames (groupIn (now (region .entry)) .consumers))) ⌝ }
 {
     let mut to = at;
-    let mut i = 34;
+    let mut i = FIELDS_AT;
     let mut left = groups::consumer_count(region);
     while 0 < left {
         let n = 1 + octets::wide(region[i]) as usize;
         octets::copy_in(d, to, &region[i..i + n]);
         to += n;
-        i += 17;
+        i += FIELD_BYTES;
         left -= 1;
     }
     to
@@ -58,9 +63,9 @@ pub fn write_body(region: &[u8], d: &mut [u8], at: usize) -> usize
 {
     let n = 1 + octets::wide(region[0]) as usize;
     octets::copy_in(d, at, &region[0..n]);
-    octets::copy_in(d, at + n, &region[17..34]);
+    octets::copy_in(d, at + n, &region[DELIVERED_AT..FIELDS_AT]);
     let end = write_names(region, d, at + n + 17);
-    let size = 2 + groups::pending_count(region) * 27;
-    octets::copy_in(d, end, &region[306..306 + size]);
+    let size = 2 + groups::pending_count(region) * ENTRY_BYTES;
+    octets::copy_in(d, end, &region[PENDING_AT..PENDING_AT + size]);
     end + size
 }

@@ -1,8 +1,8 @@
 -- A body of a snapshot is read as its group exactly when its bytes are the group's and the group keeps the rules. Assumes nothing.
 use mathlib.Core.Path.{_≡_, refl, sym, ap, ap₂, _∙_, subst}
-use mathlib.Core.Bool.{Bool, true, false}
+use mathlib.Core.Bool.{true}
 use mathlib.Core.List.{List, [], _∷_, _++_, append-assoc, append-nil}
-use mathlib.Core.Option.{Option, some, none}
+use mathlib.Core.Option.{some}
 use Prim.Native.Nat.{ℕ, zero, suc, _*_, _≤_}
 use native.Mathlib.Omega.{arith}
 use lib.Dec.{leb, eqb}
@@ -10,30 +10,20 @@ use lib.ListN.{length, take, drop, length-append, take-append-drop}
 use lib.Seq.{take-at, drop-at, take-all, length-take-le}
 use borrow.Author.Tests.{leb-true, le-leb, eqb-true, eq-eqb}
 use Rattle.octets.specs.Pick.{both}
-use Rattle.octets.specs.Maybe.{_>>=_, _>>_, need}
+use Rattle.octets.specs.Maybe.{_>>=_, _>>_}
 use Rattle.octets.specs.Bytes.{Bytes, le, leValue}
 use Rattle.octets.specs.Place.{Taken, takeBytes}
-use Rattle.octets.proofs.Laws.{both-true, bytes-take, bytes-drop, bytes-tail, length-le, value-le, le-value}
+use Rattle.octets.proofs.Laws.{both-true, bytes-take, bytes-drop, bytes-tail, length-le, value-le, le-value, both-of, needed, answered}
 use Rattle.id.specs.Id.{least}
 use Rattle.id.specs.Bytes.{idBytes, idFrom}
 use Rattle.id.proofs.Laws.{length-id-bytes, from-bytes-of, bytes-of-from, from-fits}
-use Rattle.groups.specs.Group.{Pending, Group, isName, nameBefore, areNames, namesAbove, isGroup}
+use Rattle.groups.specs.Group.{Pending, Group, isName, areNames, namesAbove, isGroup}
 use Rattle.groups.specs.Bytes.{nameBytes, allNames, allPending, bodyBytes}
 use Rattle.groups.specs.Parse.{allPendingIn, areEntries, takeName, TakenNames, takeNames, parseBody}
-use Rattle.groups.proofs.Tools.{both-of}
 use Rattle.groups.proofs.Names.{named, is-name}
 use Rattle.groups.proofs.Entries.{EntriesKept, length-pending-in, length-entries, entries-kept, entries-read}
 use Rattle.groups.proofs.Rules.{rules, is-group}
-
--- what a chain that came to an end went through
-module _ {B C : Type 0} (y : B) where
-  pub bound : {A : Type 0} (o : Option A) (f : A → Option B) → (o >>= f) ≡ some y → ((a : A) → o ≡ some a → f a ≡ some y → C) → C
-  bound none f e k = absurd (let z : _≡_ {A = ℕ} 0 1 = cc in omega arith)
-  bound (some a) f e k = k a refl e
-
-  pub needed : (t : Bool) (o : Option B) → (need t >> o) ≡ some y → (t ≡ true → o ≡ some y → C) → C
-  needed true o e k = k refl e
-  needed false o e k = absurd (let z : _≡_ {A = ℕ} 0 1 = cc in omega arith)
+use Rattle.octets.specs.Compare.{comesBefore}
 
 abbrev pub taken : List ℕ → List ℕ → Taken
 taken xs ys = record { bytes = xs; rest = ys }
@@ -53,7 +43,7 @@ record BytesTaken (n : ℕ) (s : List ℕ) (x : Taken) : Type 0 where
 bytes-taken : (n : ℕ) (s : List ℕ) (x : Taken) → takeBytes n s ≡ some x → BytesTaken n s x
 unfolding takeBytes
 bytes-taken n s x e =
-    needed x (leb n (length s)) (some (taken (take n s) (drop n s))) e λ h k.
+    needed (leb n (length s)) (some (taken (take n s) (drop n s))) e λ h k.
     let q : taken (take n s) (drop n s) ≡ x = cc in
     subst (BytesTaken n s) q
     (record {
@@ -79,7 +69,7 @@ name-taken : (s : List ℕ) (x : Taken) → takeName s ≡ some x → NameTaken 
 unfolding takeName
 name-taken [] x e = absurd (let z : _≡_ {A = ℕ} 0 1 = cc in omega arith)
 name-taken (n ∷ s) x e =
-    needed x (both (leb 1 n) (leb n 16)) (takeBytes n s) e λ h k.
+    needed (both (leb 1 n) (leb n 16)) (takeBytes n s) e λ h k.
     let q = both-true (leb 1 n) (leb n 16) h in
     let t = bytes-taken n s x k in
     record {
@@ -98,7 +88,7 @@ unfolding takeNames allNames areNames namesAbove
 names-kept above [] t e r = refl
 names-kept above (n ∷ ns) t e r =
     let p = both-true (isName n) (areNames ns) e in
-    let q = both-true (nameBefore above n) (namesAbove n ns) r in
+    let q = both-true (comesBefore above n) (namesAbove n ns) r in
     let a : (nameBytes n ++ allNames ns) ++ t ≡ nameBytes n ++ (allNames ns ++ t) = append-assoc (nameBytes n) (allNames ns) t in
     let k : takeName ((nameBytes n ++ allNames ns) ++ t) ≡ some (taken n (allNames ns ++ t)) = ap takeName a ∙ name-kept n (allNames ns ++ t) (p .0) in
     rw (k, q .0, names-kept n ns t (p .1) (q .1))
@@ -116,9 +106,9 @@ names-taken above zero s x e =
     let q : takenNames [] s ≡ x = cc in
     subst (NamesTaken above zero s) q (record { split = refl; size = refl; names-are = λ b. refl; rising = refl; rest-bytes = λ b. b })
 names-taken above (suc n) s x e =
-    bound x (takeName s) _ e λ y e1 k1.
-    needed x (nameBefore above (y .bytes)) _ k1 λ h k2.
-    bound x (takeNames (y .bytes) n (y .rest)) _ k2 λ ys e3 k3.
+    answered (takeName s) _ e λ y e1 k1.
+    needed (comesBefore above (y .bytes)) _ k1 λ h k2.
+    answered (takeNames (y .bytes) n (y .rest)) _ k2 λ ys e3 k3.
     let t = name-taken s y e1 in
     let k = names-taken (y .bytes) n (y .rest) ys e3 in
     let w : takenNames (y .bytes ∷ ys .names) (ys .rest) ≡ x = cc in
@@ -235,15 +225,15 @@ module _ (name id count : Taken) (names : TakenNames) (number : Taken) where
 pub body-bytes : (s : List ℕ) (g : Group) → Bytes s → parseBody s ≡ some g → BodyRead s g
 unfolding parseBody n read
 body-bytes s g b e =
-    bound g (takeName s) _ e λ name e1 k1.
-    bound g (takeBytes 16 (name .rest)) _ k1 λ id e2 k2.
-    bound g (takeBytes 1 (id .rest)) _ k2 λ count e3 k3.
-    needed g (leb (leValue (count .bytes)) 16) _ k3 λ h4 k4.
-    bound g (takeNames [] (leValue (count .bytes)) (count .rest)) _ k4 λ names e5 k5.
-    bound g (takeBytes 2 (names .rest)) _ k5 λ number e6 k6.
-    needed g (leb (leValue (number .bytes)) 256) _ k6 λ h7 k7.
-    needed g (eqb (length (number .rest)) (leValue (number .bytes) * 27)) _ k7 λ h8 k8.
-    needed g (areEntries (leValue (count .bytes)) least (idFrom (id .bytes)) (leValue (number .bytes)) (number .rest)) _ k8 λ h9 k9.
+    answered (takeName s) _ e λ name e1 k1.
+    answered (takeBytes 16 (name .rest)) _ k1 λ id e2 k2.
+    answered (takeBytes 1 (id .rest)) _ k2 λ count e3 k3.
+    needed (leb (leValue (count .bytes)) 16) _ k3 λ h4 k4.
+    answered (takeNames [] (leValue (count .bytes)) (count .rest)) _ k4 λ names e5 k5.
+    answered (takeBytes 2 (names .rest)) _ k5 λ number e6 k6.
+    needed (leb (leValue (number .bytes)) 256) _ k6 λ h7 k7.
+    needed (eqb (length (number .rest)) (leValue (number .bytes) * 27)) _ k7 λ h8 k8.
+    needed (areEntries (leValue (count .bytes)) least (idFrom (id .bytes)) (leValue (number .bytes)) (number .rest)) _ k8 λ h9 k9.
     let w : read name id count names number ≡ g = cc in
     subst (BodyRead s) w
     (body-read name id count names number s b (name-taken s name e1) (bytes-taken 16 (name .rest) id e2) (bytes-taken 1 (id .rest) count e3)

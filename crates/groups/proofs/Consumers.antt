@@ -6,20 +6,20 @@ use Prim.Native.Nat.{ℕ, suc, _+_, _≤_}
 use native.Mathlib.Omega.{arith}
 use lib.ListN.{length, take, drop}
 use Rattle.octets.specs.Pick.{pick}
-use Rattle.octets.specs.Compare.{same, orderOf, isLess}
+use Rattle.octets.specs.Compare.{same, orderOf, isLess, comesBefore}
 use Rattle.octets.specs.declared.Order.the-variants.{Less, Equal, Greater}
-use Rattle.octets.proofs.Laws.{both-true, mirror, pick-by, order-equal, order-mirror, same-refl, same-true}
-use Rattle.groups.specs.Group.{isName, nameBefore, areNames, namesAbove, isAmong}
+use Rattle.octets.proofs.Laws.{both-true, mirror, pick-by, order-equal, order-mirror, same-refl, same-true, both-of, never}
+use Rattle.groups.specs.Group.{isName, areNames, namesAbove, isAmong}
 use Rattle.groups.specs.Bytes.{placeOf}
 use Rattle.groups.specs.Step.{withName, withoutName}
-use Rattle.groups.proofs.Tools.{both-of, never, by-three}
 use Rattle.groups.proofs.Names.{before-trans, same-swap, before-differs, after-differs}
+use Rattle.groups.proofs.Orders.{by-three}
 
 -- by the order of two names
 pub by-name : {C : Type 0} (a b : List ℕ) → (orderOf a b ≡ Less → C) → (orderOf a b ≡ Equal → C) → (orderOf a b ≡ Greater → C) → C
 by-name a b = by-three (orderOf a b)
 
-pub greater-before : (a b : List ℕ) → orderOf a b ≡ Greater → nameBefore b a ≡ true
+pub greater-before : (a b : List ℕ) → orderOf a b ≡ Greater → comesBefore b a ≡ true
 greater-before a b e = ap isLess (order-mirror a b ∙ ap mirror e)
 
 pub equal-same : (a b : List ℕ) → orderOf a b ≡ Equal → same a b ≡ true
@@ -38,18 +38,18 @@ pub among-rest : (n m : List ℕ) (ms : List (List ℕ)) → same n m ≡ false 
 unfolding isAmong
 among-rest n m ms e = rw e
 
-pub names-lower : (a b : List ℕ) (ns : List (List ℕ)) → nameBefore a b ≡ true → namesAbove b ns ≡ true → namesAbove a ns ≡ true
+pub names-lower : (a b : List ℕ) (ns : List (List ℕ)) → comesBefore a b ≡ true → namesAbove b ns ≡ true → namesAbove a ns ≡ true
 unfolding namesAbove
 names-lower a b [] h k = refl
 names-lower a b (n ∷ ns) h k =
-    let q = both-true (nameBefore b n) (namesAbove n ns) k in both-of (before-trans a b n h (q .0)) (q .1)
+    let q = both-true (comesBefore b n) (namesAbove n ns) k in both-of (before-trans a b n h (q .0)) (q .1)
 
 -- no name that the others rise above is among them
 pub not-among : (n : List ℕ) (ms : List (List ℕ)) → namesAbove n ms ≡ true → isAmong n ms ≡ false
 unfolding namesAbove
 not-among n [] e = unfold isAmong in refl
 not-among n (m ∷ ms) e =
-    let p = both-true (nameBefore n m) (namesAbove m ms) e in
+    let p = both-true (comesBefore n m) (namesAbove m ms) e in
     among-rest n m ms (before-differs n m (p .0)) ∙ not-among n ms (names-lower n m ms (p .0) (p .1))
 
 -- a consumer put in
@@ -76,11 +76,11 @@ module _ (n : List ℕ) where
       (λ o. rw (with-equal m ms o) e)
       (λ o. rw (with-greater m ms o) (both-of (p .0) (names-with h ms (p .1))))
 
-  pub above-with : (a : List ℕ) → nameBefore a n ≡ true → (ns : List (List ℕ)) → namesAbove a ns ≡ true → namesAbove a (withName n ns) ≡ true
+  pub above-with : (a : List ℕ) → comesBefore a n ≡ true → (ns : List (List ℕ)) → namesAbove a ns ≡ true → namesAbove a (withName n ns) ≡ true
   unfolding namesAbove
   above-with a h [] e = unfold withName in both-of h refl
   above-with a h (m ∷ ms) e =
-      let p = both-true (nameBefore a m) (namesAbove m ms) e in
+      let p = both-true (comesBefore a m) (namesAbove m ms) e in
       by-name n m
       (λ o. rw (with-less m ms o) (both-of h (both-of (ap isLess o) (p .1))))
       (λ o. rw (with-equal m ms o) e)
@@ -113,7 +113,7 @@ module _ (n : List ℕ) where
   unfolding namesAbove
   with-known a [] e h = absurd (never h (unfold isAmong in refl))
   with-known a (m ∷ ms) e h =
-      let p = both-true (nameBefore a m) (namesAbove m ms) e in
+      let p = both-true (comesBefore a m) (namesAbove m ms) e in
       by-name n m
       (λ o. absurd (never h (not-among n (m ∷ ms) (unfold namesAbove in both-of (ap isLess o) (p .1)))))
       (λ o. with-equal m ms o)
@@ -136,8 +136,8 @@ module _ (n : List ℕ) where
   above-case : (a m : List ℕ) (ms xs : List (List ℕ)) (t : Bool) → namesAbove a (m ∷ ms) ≡ true
       → (namesAbove m ms ≡ true → namesAbove m xs ≡ true) → namesAbove a (pick t ms (m ∷ xs)) ≡ true
   unfolding namesAbove
-  above-case a m ms xs true e r = let p = both-true (nameBefore a m) (namesAbove m ms) e in names-lower a m ms (p .0) (p .1)
-  above-case a m ms xs false e r = let p = both-true (nameBefore a m) (namesAbove m ms) e in both-of (p .0) (r (p .1))
+  above-case a m ms xs true e r = let p = both-true (comesBefore a m) (namesAbove m ms) e in names-lower a m ms (p .0) (p .1)
+  above-case a m ms xs false e r = let p = both-true (comesBefore a m) (namesAbove m ms) e in both-of (p .0) (r (p .1))
 
   pub above-without : (a : List ℕ) (ns : List (List ℕ)) → namesAbove a ns ≡ true → namesAbove a (withoutName n ns) ≡ true
   unfolding withoutName

@@ -12,24 +12,15 @@ use borrow.Author.Tests.{leb-true, le-leb, ltb-true, lt-ltb}
 use Rattle.octets.specs.Pick.{both}
 use Rattle.octets.specs.Bytes.{Bytes, le, leValue}
 use Rattle.octets.specs.Place.{area}
-use Rattle.octets.proofs.Laws.{both-true, bytes-area, bytes-drop, length-le, value-le, le-value, value-le-lt, area-left, area-middle, area-front, area-add, area-first, length-area}
+use Rattle.octets.proofs.Laws.{both-true, bytes-area, bytes-drop, length-le, value-le, le-value, value-le-lt, area-left, area-middle, area-front, area-add, area-first, length-area, both-of}
 use Rattle.id.specs.declared.Id.{Id}
 use Rattle.id.specs.Id.{Fits64, isId, below, atMost}
 use Rattle.id.specs.Bytes.{idBytes, idFrom}
-use Rattle.id.proofs.Laws.{length-id-bytes, from-bytes-of, bytes-of-from, from-fits}
+use Rattle.id.proofs.Laws.{length-id-bytes, from-bytes-of, bytes-of-from, from-fits, id-fits, fits-id}
 use Rattle.groups.specs.Group.{Pending, mostCount, namesAbove, isAmong, isPending, arePending, pendingAbove, pendingUpTo}
 use Rattle.groups.specs.Bytes.{placeOf, pendingBytes, allPending}
 use Rattle.groups.specs.Parse.{entryId, pendingIn, isEntry, allPendingIn, areEntries}
-use Rattle.groups.proofs.Tools.{both-of}
 use Rattle.groups.proofs.Names.{placed, place-getD, among-getD}
-
-pub id-fits : (i : Id) → isId i ≡ true → Fits64 i
-id-fits i e =
-    let p = both-true (ltb (i .ms) (2 ^ 64)) (ltb (i .seq) (2 ^ 64)) e in
-    record { ms-fits = ltb-true (i .ms) (2 ^ 64) (p .0); seq-fits = ltb-true (i .seq) (2 ^ 64) (p .1) }
-
-pub fits-id : (i : Id) → Fits64 i → isId i ≡ true
-fits-id i f = both-of (lt-ltb (i .ms) (2 ^ 64) (f .ms-fits)) (lt-ltb (i .seq) (2 ^ 64) (f .seq-fits))
 
 -- the rules of an entry
 pub record Entry (consumers : List (List ℕ)) (p : Pending) : Type 0 where

@@ -12,12 +12,11 @@ use borrow.Author.Tests.{leb-true, le-leb}
 use Rattle.octets.specs.Pick.{both}
 use Rattle.octets.specs.Bytes.{Bytes, zeros}
 use Rattle.octets.specs.Place.{area}
-use Rattle.octets.specs.Compare.{allZero}
-use Rattle.octets.proofs.Laws.{both-true, zero-all, all-zero, bytes-area, bytes-drop}
-use Rattle.groups.specs.Group.{isName, nameBefore, areNames, namesAbove}
+use Rattle.octets.specs.Compare.{allZero, comesBefore}
+use Rattle.octets.proofs.Laws.{both-true, zero-all, all-zero, bytes-area, bytes-drop, both-of}
+use Rattle.groups.specs.Group.{isName, areNames, namesAbove}
 use Rattle.groups.specs.Bytes.{nameField, allNameFields}
 use Rattle.groups.specs.Parse.{nameIn, isField, namesIn, areFields}
-use Rattle.groups.proofs.Tools.{both-of}
 use Rattle.groups.proofs.Names.{named, is-name}
 
 pub length-field : (n : List ℕ) → length n ≤ 16 → length (nameField n) ≡ 17
@@ -105,7 +104,7 @@ unfolding allNameFields namesIn areFields areNames namesAbove
 fields-kept above [] t e r = record { names = refl; fields = refl }
 fields-kept above (n ∷ ns) t e r =
     let p = both-true (isName n) (areNames ns) e in
-    let q = both-true (nameBefore above n) (namesAbove n ns) r in
+    let q = both-true (comesBefore above n) (namesAbove n ns) r in
     let u : List ℕ = allNameFields ns ++ t in
     let a : (nameField n ++ allNameFields ns) ++ t ≡ nameField n ++ u = append-assoc (nameField n) (allNameFields ns) t in
     let d : drop 17 ((nameField n ++ allNameFields ns) ++ t) ≡ u =
@@ -114,7 +113,7 @@ fields-kept above (n ∷ ns) t e r =
     let k = fields-kept n ns t (p .1) (q .1) in
     record {
       names = ap₂ (λ (x : List ℕ) (l : List (List ℕ)). x ∷ l) m (ap (namesIn (length ns)) d ∙ k .names);
-      fields = both-of (both-of (ap isField a ∙ field-of-name n u (p .0)) (ap (nameBefore above) m ∙ q .0))
+      fields = both-of (both-of (ap isField a ∙ field-of-name n u (p .0)) (ap (comesBefore above) m ∙ q .0))
           (ap₂ (λ (x l : List ℕ). areFields x (length ns) l) m d ∙ k .fields);
     }
 
@@ -128,8 +127,8 @@ pub fields-read : (above : List ℕ) (n : ℕ) (s : List ℕ) → areFields abov
 unfolding allNameFields namesIn areFields areNames namesAbove
 fields-read above zero s e h b = record { bytes = refl; names = refl; rising = refl }
 fields-read above (suc n) s e h b =
-    let p = both-true (both (isField s) (nameBefore above (nameIn s))) (areFields (nameIn s) n (drop 17 s)) e in
-    let q = both-true (isField s) (nameBefore above (nameIn s)) (p .0) in
+    let p = both-true (both (isField s) (comesBefore above (nameIn s))) (areFields (nameIn s) n (drop 17 s)) e in
+    let q = both-true (isField s) (comesBefore above (nameIn s)) (p .0) in
     let l : 17 ≤ length s = omega arith in
     let k = fields-read (nameIn s) n (drop 17 s) (p .1) (omega (arith, length-drop 17 s)) (bytes-drop 17 b) in
     let j : suc n * 17 ≡ 17 + n * 17 = omega arith in

@@ -10,7 +10,7 @@ use lib.ListN.{length, getD, length-append}
 use borrow.Author.Tests.{leb-false}
 use Rattle.octets.specs.Pick.{pick, both}
 use Rattle.octets.specs.Compare.{same}
-use Rattle.octets.proofs.Laws.{both-true}
+use Rattle.octets.proofs.Laws.{both-true, both-of}
 use Rattle.id.specs.declared.Id.{Id}
 use Rattle.id.specs.Id.{Fits64, least, below, atMost}
 use Rattle.id.proofs.Laws.{at-most-refl, at-most-trans, below-at-most, at-most-below-trans, least-at-most}
@@ -18,7 +18,6 @@ use Rattle.groups.specs.Group.{Pending, Group, isName, namesAbove, isAmo
 use Rattle.groups.specs.Bytes.{placeOf}
 use Rattle.groups.specs.Step.{withName, withoutName, findPending, putPending, withoutPending, pendingOfOthers, deliver, acknowledge, claim, dropConsumer}
 use Rattle.groups.specs.Answer.{lacksConsumer, withConsumer}
-use Rattle.groups.proofs.Tools.{both-of}
 use Rattle.groups.proofs.Names.{named, empty-before, place-getD}
 use Rattle.groups.proofs.Entries.{Entry, entry, is-pending}
 use Rattle.groups.proofs.Rules.{Rules, rules, is-group}
@@ -87,7 +86,7 @@ up-to-put : (d : Id) (q : Pending) (ps : List Pending) → atMost (q .id) d ≡ 
 up-to-put d q ps h e =
     up-to-all d (putPending q ps) ∙ all-put q (λ p. atMost (p .id) d) h ps (sym (up-to-all d ps) ∙ e)
 
-up-to-later : (d e : Id) (ps : List Pending) → atMost d e ≡ true → pendingUpTo d ps ≡ true → pendingUpTo e ps ≡ true
+pub up-to-later : (d e : Id) (ps : List Pending) → atMost d e ≡ true → pendingUpTo d ps ≡ true → pendingUpTo e ps ≡ true
 up-to-later d e ps h k =
     up-to-all e ps
     ∙ all-weaker (λ p. atMost (p .id) d) (λ p. atMost (p .id) e) (λ p x. at-most-trans (p .id) d e x h) ps (sym (up-to-all d ps) ∙ k)

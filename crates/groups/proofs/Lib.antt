@@ -1,17 +1,23 @@
--- What a user of groups needs is in Laws; the others are for the crates that stand beside it on the same bytes.
+-- What other crates cite is in Laws, and nothing else.
 pub mod Laws
-pub mod Tools
-pub mod Names
-pub mod Fields
-pub mod Entries
-pub mod Rules
-pub mod Parts
-pub mod Regions
-pub mod Bodies
+mod Orders
+mod Names
+mod Fields
+mod Entries
+mod Rules
+mod Parts
+mod Regions
+mod Bodies
 mod Pendings
-pub mod Consumers
+mod Consumers
 mod Kept
-pub mod Turns
-pub mod Verdicts
-pub mod Spots
-pub mod Searched
+mod Turns
+mod Limits
+mod Verdicts
+mod Spots
+mod Searched
+mod Groups
+mod Areas
+mod Listed
+mod Finding
+mod Steps

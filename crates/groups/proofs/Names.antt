@@ -10,13 +10,11 @@ use lib.ListN.{length, getD}
 use borrow.Author.Tests.{leb-true, le-leb}
 use Rattle.octets.specs.Pick.{pick, both}
 use Rattle.octets.specs.Bytes.{Bytes}
-use Rattle.octets.specs.Compare.{same, orderOf, isLess}
-use Rattle.octets.specs.declared.Order.{Order}
-use Rattle.octets.specs.declared.Order.the-variants.{Less, Equal, Greater}
-use Rattle.octets.proofs.Laws.{both-true, order-refl, order-trans, same-refl, same-true}
-use Rattle.groups.specs.Group.{isName, nameBefore, areNames, namesAbove, risingNames, isAmong}
+use Rattle.octets.specs.Compare.{same, orderOf, isLess, comesBefore}
+use Rattle.octets.specs.declared.Order.the-variants.{Less}
+use Rattle.octets.proofs.Laws.{both-true, order-refl, order-trans, same-refl, same-true, both-of, never, are-bytes, bytes-are, is-less}
+use Rattle.groups.specs.Group.{isName, areNames, namesAbove, risingNames, isAmong}
 use Rattle.groups.specs.Bytes.{placeOf}
-use Rattle.groups.proofs.Tools.{both-of, never, are-bytes, bytes-are}
 
 -- a name of 1 to 16 bytes
 pub record Named (n : List ℕ) : Type 0 where
@@ -33,22 +31,17 @@ named n e =
 pub is-name : (n : List ℕ) → 1 ≤ length n → length n ≤ 16 → Bytes n → isName n ≡ true
 is-name n h k b = both-of (both-of (le-leb 1 (length n) h) (le-leb (length n) 16 k)) (are-bytes n b)
 
-is-less : (o : Order) → isLess o ≡ true → o ≡ Less
-is-less Less e = refl
-is-less Equal e = absurd (never refl (sym e))
-is-less Greater e = absurd (never refl (sym e))
-
-pub before-less : (a b : List ℕ) → nameBefore a b ≡ true → orderOf a b ≡ Less
+pub before-less : (a b : List ℕ) → comesBefore a b ≡ true → orderOf a b ≡ Less
 before-less a b e = is-less (orderOf a b) e
 
-pub before-trans : (a b c : List ℕ) → nameBefore a b ≡ true → nameBefore b c ≡ true → nameBefore a c ≡ true
+pub before-trans : (a b c : List ℕ) → comesBefore a b ≡ true → comesBefore b c ≡ true → comesBefore a c ≡ true
 before-trans a b c p q = ap isLess (order-trans a b c (before-less a b p) (before-less b c q))
 
 -- one name is not before itself
-pub not-same : (a b : List ℕ) (t : Bool) → same a b ≡ t → nameBefore a b ≡ true → t ≡ false
+pub not-same : (a b : List ℕ) (t : Bool) → same a b ≡ t → comesBefore a b ≡ true → t ≡ false
 not-same a b false e h = refl
 not-same a b true e h =
-    absurd (never (subst (λ (x : List ℕ). nameBefore a x ≡ true) (sym (same-true a b e)) h) (ap isLess (order-refl a)))
+    absurd (never (subst (λ (x : List ℕ). comesBefore a x ≡ true) (sym (same-true a b e)) h) (ap isLess (order-refl a)))
 
 pub same-swap : (a b : List ℕ) (t : Bool) → same a b ≡ t → same b a ≡ t
 same-swap a b true e = rw (same-true a b e) (same-refl b)
@@ -58,14 +51,14 @@ same-swap a b false e = go (same b a) refl
     go false f = f
     go true f = absurd (never (rw (same-true b a f) (same-refl a)) e)
 
-pub before-differs : (a b : List ℕ) → nameBefore a b ≡ true → same a b ≡ false
+pub before-differs : (a b : List ℕ) → comesBefore a b ≡ true → same a b ≡ false
 before-differs a b h = not-same a b (same a b) refl h
 
-pub after-differs : (a b : List ℕ) → nameBefore a b ≡ true → same b a ≡ false
+pub after-differs : (a b : List ℕ) → comesBefore a b ≡ true → same b a ≡ false
 after-differs a b h = same-swap a b false (before-differs a b h)
 
 -- the empty name comes before every other
-pub empty-before : (n : List ℕ) → 1 ≤ length n → nameBefore [] n ≡ true
+pub empty-before : (n : List ℕ) → 1 ≤ length n → comesBefore [] n ≡ true
 unfolding orderOf
 empty-before [] h = absurd (omega arith)
 empty-before (x ∷ n) h = refl
@@ -80,15 +73,15 @@ rising-above (n ∷ ns) e r =
 pub above-rising : (a : List ℕ) (ns : List (List ℕ)) → namesAbove a ns ≡ true → risingNames ns ≡ true
 unfolding risingNames namesAbove
 above-rising a [] e = refl
-above-rising a (n ∷ ns) e = both-true (nameBefore a n) (namesAbove n ns) e .1
+above-rising a (n ∷ ns) e = both-true (comesBefore a n) (namesAbove n ns) e .1
 
 -- every name of the list is above what it rises above
-pub above-getD : (a : List ℕ) (ns : List (List ℕ)) (i : ℕ) → namesAbove a ns ≡ true → i < length ns → nameBefore a (getD ns i []) ≡ true
+pub above-getD : (a : List ℕ) (ns : List (List ℕ)) (i : ℕ) → namesAbove a ns ≡ true → i < length ns → comesBefore a (getD ns i []) ≡ true
 unfolding namesAbove
 above-getD a [] i e h = absurd (omega arith)
-above-getD a (n ∷ ns) zero e h = both-true (nameBefore a n) (namesAbove n ns) e .0
+above-getD a (n ∷ ns) zero e h = both-true (comesBefore a n) (namesAbove n ns) e .0
 above-getD a (n ∷ ns) (suc i) e h =
-    let p = both-true (nameBefore a n) (namesAbove n ns) e in
+    let p = both-true (comesBefore a n) (namesAbove n ns) e in
     before-trans a n (getD ns i []) (p .0) (above-getD n ns i (p .1) (omega arith))
 
 pub place-getD : (a : List ℕ) (ns : List (List ℕ)) (i : ℕ) → namesAbove a ns ≡ true → i < length ns → placeOf (getD ns i []) ns ≡ i
@@ -96,7 +89,7 @@ unfolding namesAbove placeOf
 place-getD a [] i e h = absurd (omega arith)
 place-getD a (n ∷ ns) zero e h = rw (same-refl n)
 place-getD a (n ∷ ns) (suc i) e h =
-    let p = both-true (nameBefore a n) (namesAbove n ns) e in
+    let p = both-true (comesBefore a n) (namesAbove n ns) e in
     let q : i < length ns = omega arith in
     rw (after-differs n (getD ns i []) (above-getD n ns i (p .1) q), place-getD n ns i (p .1) q) (omega arith)
 

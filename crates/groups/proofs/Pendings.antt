@@ -8,17 +8,16 @@ use Prim.Native.Nat.{ℕ, suc, _+_, _≤_, _<_}
 use native.Mathlib.Omega.{arith}
 use lib.ListN.{length, take, drop, length-append, length-take, length-drop}
 use Rattle.octets.specs.Pick.{pick, both}
-use Rattle.octets.specs.Compare.{same, isLess, isEqual}
-use Rattle.octets.specs.declared.Order.{Order}
+use Rattle.octets.specs.Compare.{same, isLess}
 use Rattle.octets.specs.declared.Order.the-variants.{Less, Equal, Greater}
-use Rattle.octets.proofs.Laws.{both-true, mirror}
+use Rattle.octets.proofs.Laws.{both-true, mirror, both-of, never, is-equal}
 use Rattle.id.specs.declared.Id.{Id}
-use Rattle.id.specs.Id.{idOrder, below, atMost}
+use Rattle.id.specs.Id.{idOrder, below, atMost, sameId}
 use Rattle.id.proofs.Laws.{below-less, below-trans, below-irrefl, at-most-below-trans, id-order-refl, id-order-equal, id-order-mirror}
 use Rattle.groups.specs.Group.{Pending, isPending, arePending, pendingAbove, pendingUpTo}
 use Rattle.groups.specs.Step.{findPending, putPending, withoutPending, pendingOf, pendingOfOthers}
 use Rattle.groups.specs.Answer.{placeOfId}
-use Rattle.groups.proofs.Tools.{both-of, never, by-three}
+use Rattle.groups.proofs.Orders.{by-three}
 
 -- by the order of two IDs
 pub by-id : {C : Type 0} (a b : Id) → (idOrder a b ≡ Less → C) → (idOrder a b ≡ Equal → C) → (idOrder a b ≡ Greater → C) → C
@@ -157,12 +156,7 @@ pub record Stands (i : Id) (ps : List Pending) (p : Pending) : Type 0 where
   pub without : withoutPending i ps ≡ take (placeOfId i ps) ps ++ drop (suc (placeOfId i ps)) ps
   pub member : List·Memᴰ p ps
 
-is-equal : (o : Order) → isEqual o ≡ true → o ≡ Equal
-is-equal Less e = absurd (never refl (sym e))
-is-equal Equal e = refl
-is-equal Greater e = absurd (never refl (sym e))
-
-stands-case : (i : Id) (h : Pending) (ps : List Pending) (p : Pending) (t : Bool) → isEqual (idOrder (h .id) i) ≡ t
+stands-case : (i : Id) (h : Pending) (ps : List Pending) (p : Pending) (t : Bool) → sameId (h .id) i ≡ t
     → pick t (some h) (findPending i ps) ≡ some p → (findPending i ps ≡ some p → Stands i ps p) → Stands i (h ∷ ps) p
 unfolding placeOfId withoutPending
 stands-case i h ps p true e f r =
@@ -189,7 +183,7 @@ stands-case i h ps p false e f r =
 pub stands : (i : Id) (ps : List Pending) (p : Pending) → findPending i ps ≡ some p → Stands i ps p
 unfolding findPending
 stands i [] p e = absurd (let z : _≡_ {A = ℕ} 0 1 = cc in omega arith)
-stands i (h ∷ ps) p e = stands-case i h ps p (isEqual (idOrder (h .id) i)) refl e (stands i ps p)
+stands i (h ∷ ps) p e = stands-case i h ps p (sameId (h .id) i) refl e (stands i ps p)
 
 -- none is found
 absent-case : (i : Id) (h : Pending) (ps : List Pending) (t : Bool) → pick t (some h) (findPending i ps) ≡ none
@@ -200,7 +194,7 @@ absent-case i h ps false f r = ap (λ (l : List Pending). h ∷ l) (r f)
 pub without-absent : (i : Id) (ps : List Pending) → findPending i ps ≡ none → withoutPending i ps ≡ ps
 unfolding findPending withoutPending
 without-absent i [] e = refl
-without-absent i (h ∷ ps) e = absent-case i h ps (isEqual (idOrder (h .id) i)) e (without-absent i ps)
+without-absent i (h ∷ ps) e = absent-case i h ps (sameId (h .id) i) e (without-absent i ps)
 
 -- an ID that is found lies above what the entries rise above
 pub found-above : (a i : Id) (ps : List Pending) (p : Pending) → pendingAbove a ps ≡ true → findPending i ps ≡ some p → below a i ≡ true
@@ -210,7 +204,7 @@ found-above a i ps p e f =
 
 -- an entry gives way to another of its ID, at its place
 module _ (i : Id) (q : Pending) (same-id : q .id ≡ i) where
-  put-case : (a : Id) (h : Pending) (ps : List Pending) (p : Pending) (t : Bool) → isEqual (idOrder (h .id) i) ≡ t
+  put-case : (a : Id) (h : Pending) (ps : List Pending) (p : Pending) (t : Bool) → sameId (h .id) i ≡ t
       → pendingAbove a (h ∷ ps) ≡ true → pick t (some h) (findPending i ps) ≡ some p
       → (findPending i ps ≡ some p → putPending q ps ≡ take (placeOfId i ps) ps ++ (q ∷ drop (suc (placeOfId i ps)) ps))
       → putPending q (h ∷ ps) ≡ take (placeOfId i (h ∷ ps)) (h ∷ ps) ++ (q ∷ drop (suc (placeOfId i (h ∷ ps))) (h ∷ ps))
@@ -228,7 +222,7 @@ module _ (i : Id) (q : Pending) (same-id : q .id ≡ i) where
   unfolding findPending
   put-found a [] p e f = absurd (let z : _≡_ {A = ℕ} 0 1 = cc in omega arith)
   put-found a (h ∷ ps) p e f =
-      put-case a h ps p (isEqual (idOrder (h .id) i)) refl e f (put-found (h .id) ps p (above-of a h ps e .1))
+      put-case a h ps p (sameId (h .id) i) refl e f (put-found (h .id) ps p (above-of a h ps e .1))
 
   pub length-put-found : (a : Id) (ps : List Pending) (p : Pending) → pendingAbove a ps ≡ true → findPending i ps ≡ some p
       → length (putPending q ps) ≡ length ps
@@ -265,7 +259,7 @@ without-case p xs ps false w = kept w
 pub without-within : (i : Id) (ps : List Pending) → Within (withoutPending i ps) ps
 unfolding withoutPending
 without-within i [] = none-left
-without-within i (p ∷ ps) = without-case p (withoutPending i ps) ps (isEqual (idOrder (p .id) i)) (without-within i ps)
+without-within i (p ∷ ps) = without-case p (withoutPending i ps) ps (sameId (p .id) i) (without-within i ps)
 
 others-case : (p : Pending) (xs ps : List Pending) (t : Bool) → Within xs ps → Within (pick t xs (p ∷ xs)) (p ∷ ps)
 others-case p xs ps true w = left-out w

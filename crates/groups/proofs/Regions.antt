@@ -13,7 +13,7 @@ use Rattle.octets.specs.Maybe.{_>>_, need}
 use Rattle.octets.specs.Bytes.{Bytes, le, leValue, zeros}
 use Rattle.octets.specs.Place.{area}
 use Rattle.octets.specs.Compare.{allZero}
-use Rattle.octets.proofs.Laws.{both-true, zero-all, bytes-area, bytes-drop, length-le, value-le, length-area}
+use Rattle.octets.proofs.Laws.{both-true, zero-all, bytes-area, bytes-drop, length-le, value-le, length-area, both-of, area-drop}
 use Rattle.id.specs.declared.Id.{Id}
 use Rattle.id.specs.Id.{least}
 use Rattle.id.specs.Bytes.{idBytes, idFrom}
@@ -21,7 +21,6 @@ use Rattle.id.proofs.Laws.{length-id-bytes, from-bytes-of, bytes-of-from, from-
 use Rattle.groups.specs.Group.{Pending, Group, isGroup}
 use Rattle.groups.specs.Bytes.{nameField, allNameFields, allPending, padded, regionBytes}
 use Rattle.groups.specs.Parse.{nameIn, isField, namesIn, areFields, areEntries, allPendingIn, restZero, consumersIn, entriesIn, deliveredIn, groupIn, namesPass, entriesPass, isRegion, parseRegion}
-use Rattle.groups.proofs.Tools.{both-of, area-drop}
 use Rattle.groups.proofs.Names.{named}
 use Rattle.groups.proofs.Fields.{length-field, name-of-field, field-of-name, field-read, field-named, length-names-in, length-fields, FieldsRead, fields-kept, fields-read}
 use Rattle.groups.proofs.Entries.{length-pending-in, length-entries, EntriesRead, number-read, entries-kept, entries-read}

@@ -7,12 +7,11 @@ use lib.Dec.{leb}
 use lib.ListN.{length}
 use borrow.Author.Tests.{leb-true, le-leb}
 use Rattle.octets.specs.Pick.{both}
-use Rattle.octets.proofs.Laws.{both-true}
+use Rattle.octets.proofs.Laws.{both-true, both-of}
 use Rattle.id.specs.Id.{Fits64, isId, least}
 use Rattle.groups.specs.Group.{Group, mostConsumers, mostPending, isName, areNames, namesAbove, risingNames, arePending, pendingAbove, pendingUpTo, isGroup}
-use Rattle.groups.proofs.Tools.{both-of}
 use Rattle.groups.proofs.Names.{rising-above, above-rising}
-use Rattle.groups.proofs.Entries.{id-fits, fits-id}
+use Rattle.id.proofs.Laws.{id-fits, fits-id}
 
 pub record Rules (g : Group) : Type 0 where
   pub named : isName (g .name) ≡ true

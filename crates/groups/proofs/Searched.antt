@@ -12,11 +12,11 @@ use lib.Seq.{drop-drop, getD-drop}
 use Rattle.octets.specs.Pick.{pick, both}
 use Rattle.octets.specs.Bytes.{leValue}
 use Rattle.octets.specs.Place.{area}
-use Rattle.octets.specs.Compare.{same, orderOf, isEqual}
+use Rattle.octets.specs.Compare.{same, orderOf}
 use Rattle.octets.specs.declared.Order.the-variants.{Less, Equal, Greater}
-use Rattle.octets.proofs.Laws.{both-true}
+use Rattle.octets.proofs.Laws.{both-true, area-drop}
 use Rattle.id.specs.declared.Id.{Id}
-use Rattle.id.specs.Id.{idOrder, below}
+use Rattle.id.specs.Id.{below, sameId}
 use Rattle.id.specs.Bytes.{idFrom}
 use Rattle.groups.specs.declared.Spot.the-variants.{Known, New}
 use Rattle.groups.specs.declared.Held.{Held}
@@ -28,7 +28,6 @@ use Rattle.groups.specs.Bytes.{placeOf}
 use Rattle.groups.specs.Parse.{nameIn, namesIn, entryId, pendingIn, allPendingIn, consumersIn, entriesIn, groupIn}
 use Rattle.groups.specs.Step.{findPending, pendingOf, firstAbove, nextPending}
 use Rattle.groups.specs.Answer.{spotFrom, placeOfId, heldAs, heldIn, nextAs}
-use Rattle.groups.proofs.Tools.{area-drop}
 use Rattle.groups.proofs.Fields.{length-names-in}
 use Rattle.groups.proofs.Entries.{entry, length-pending-in}
 use Rattle.groups.proofs.Rules.{Rules}
@@ -115,7 +114,7 @@ module _ (cs : List (List ℕ)) (k : ℕ) (i : Id) (left at : ℕ) (s : List ℕ
   later : List Pending
   later = allPendingIn (left - 1) cs (drop (at + 27) s)
 
-  pub held-next : isEqual (idOrder (idFrom (area at 16 s)) i) ≡ false
+  pub held-next : sameId (idFrom (area at 16 s)) i ≡ false
       → heldFrom cs k i (allPendingIn left cs (drop at s)) ≡ heldFrom cs (k + 1) i (allPendingIn (left - 1) cs (drop (at + 27) s))
   unfolding p later placeOfId findPending
   held-next e =
@@ -127,7 +126,7 @@ module _ (cs : List (List ℕ)) (k : ℕ) (i : Id) (left at : ℕ) (s : List ℕ
   unfolding arePending
   left-kept e = both-true (isPending cs (pendingIn cs (drop at s))) (arePending cs (allPendingIn (left - 1) cs (drop (at + 27) s))) (rw (pending-step left cs at s h) at e) .1
 
-  pub held-found : namesAbove [] cs ≡ true → arePending cs (allPendingIn left cs (drop at s)) ≡ true → isEqual (idOrder (idFrom (area at 16 s)) i) ≡ true
+  pub held-found : namesAbove [] cs ≡ true → arePending cs (allPendingIn left cs (drop at s)) ≡ true → sameId (idFrom (area at 16 s)) i ≡ true
       → heldFrom cs k i (allPendingIn left cs (drop at s)) ≡ Entry k (getD s (at + 16) 0) (leValue (area (at + 17) 8 s)) (leValue (area (at + 25) 2 s))
   unfolding p later arePending
   held-found r a e =
@@ -142,7 +141,7 @@ module _ (cs : List (List ℕ)) (k : ℕ) (i : Id) (left at : ℕ) (s : List ℕ
       ∙ held-here e
       ∙ (λ j. Entry (q j) (c j) (t j) (n j))
     where
-      held-here : isEqual (idOrder (idFrom (area at 16 s)) i) ≡ true → heldFrom cs k i (p ∷ later) ≡ Entry (k + 0) (placeOf (p .consumer) cs) (p .time) (p .count)
+      held-here : sameId (idFrom (area at 16 s)) i ≡ true → heldFrom cs k i (p ∷ later) ≡ Entry (k + 0) (placeOf (p .consumer) cs) (p .time) (p .count)
       held-here f = unfold placeOfId findPending in (rw (id-of cs at s, f))
 
 pub held-done : (cs : List (List ℕ)) (k : ℕ) (i : Id) (left at : ℕ) (s : List ℕ) → left ≤ 0 → heldFrom cs k i (allPendingIn left cs (drop at s)) ≡ Missing

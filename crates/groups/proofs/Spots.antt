@@ -8,15 +8,14 @@ use lib.Dec.{eqb, ltb}
 use lib.ListN.{length, getD, take, drop, List·getD-eq-default}
 use borrow.Author.Tests.{ltb-true, ltb-false, eqb-true, eqb-false}
 use Rattle.octets.specs.Pick.{pick}
-use Rattle.octets.specs.Compare.{same, isLess}
-use Rattle.octets.proofs.Laws.{both-true, same-refl, same-true}
+use Rattle.octets.specs.Compare.{same, isLess, comesBefore}
+use Rattle.octets.proofs.Laws.{both-true, same-refl, same-true, both-of, never}
 use Rattle.groups.specs.declared.Spot.the-variants.{Known, New}
 use Rattle.groups.specs.declared.Place.the-variants.{At, Absent}
-use Rattle.groups.specs.Group.{Pending, nameBefore, namesAbove, isAmong, isPending, arePending}
+use Rattle.groups.specs.Group.{Pending, namesAbove, isAmong, isPending, arePending}
 use Rattle.groups.specs.Bytes.{placeOf}
 use Rattle.groups.specs.Step.{withName, pendingOf}
 use Rattle.groups.specs.Answer.{spotFrom, placeIn}
-use Rattle.groups.proofs.Tools.{both-of, never}
 use Rattle.groups.proofs.Names.{after-differs, above-getD, place-getD, placed}
 use Rattle.groups.proofs.Entries.{entry}
 use Rattle.groups.proofs.Consumers.{by-name, greater-before, equal-same, among-first, among-later, among-rest, not-among, with-less, with-greater}
@@ -59,7 +58,7 @@ new-spot a j n [] k r e =
     let z : k - j ≡ 0 = omega arith in
     record { from = omega arith; within = omega arith; put-in = rw z (with-nil n); unknown = unfold isAmong in refl }
 new-spot a j n (m ∷ ms) k r e =
-    let p = both-true (nameBefore a m) (namesAbove m ms) r in
+    let p = both-true (comesBefore a m) (namesAbove m ms) r in
     by-name n m
     (λ o.
     let f : New j ≡ New k = rw o at e in

@@ -12,20 +12,12 @@ use borrow.Author.Tests.{le-leb, lt-leb, lt-ltb, le-ltb}
 use Rattle.octets.specs.Pick.{both}
 use Rattle.octets.specs.Bytes.{leValue}
 use Rattle.octets.specs.Place.{area}
-use Rattle.octets.specs.Compare.{allZero}
-use Rattle.octets.proofs.Laws.{part-area}
+use Rattle.octets.specs.Compare.{allZero, comesBefore}
+use Rattle.octets.proofs.Laws.{area-drop}
 use Rattle.id.specs.declared.Id.{Id}
 use Rattle.id.specs.Id.{below, atMost}
 use Rattle.id.specs.Bytes.{idFrom}
-use Rattle.groups.specs.Group.{nameBefore, pendingUpTo}
 use Rattle.groups.specs.Parse.{nameIn, isField, areFields, entryId, pendingIn, isEntry, allPendingIn, areEntries}
-use Rattle.groups.proofs.Tools.{area-drop}
-
--- a part that is lent
-pub part-is : (a n : ℕ) (s : List ℕ) → take (a + n - a) (drop a s) ≡ area a n s
-part-is a n s =
-    let e : a + n - a ≡ n = omega arith in
-    ap (λ (k : ℕ). take k (drop a s)) e ∙ part-area a n s
 
 pub first-byte : (at : ℕ) (s : List ℕ) → getD (drop at s) 0 0 ≡ getD s at 0
 first-byte at s = getD-drop at s 0 0 ∙ ap (λ (k : ℕ). getD s k 0) (add-zero at)
@@ -82,7 +74,7 @@ module _ (at consumers : ℕ) (above most : Id) (s : List ℕ) where
 
 -- fields that are left
 fields-step : (above : List ℕ) (left : ℕ) (s : List ℕ) → 0 < left
-    → areFields above left s ≡ both (both (isField s) (nameBefore above (nameIn s))) (areFields (nameIn s) (left - 1) (drop 17 s))
+    → areFields above left s ≡ both (both (isField s) (comesBefore above (nameIn s))) (areFields (nameIn s) (left - 1) (drop 17 s))
 unfolding areFields
 fields-step above zero s h = absurd (omega arith)
 fields-step above (suc k) s h =
@@ -92,10 +84,10 @@ module _ (above : List ℕ) (left i : ℕ) (s : List ℕ) (h : 0 < left) where
   pub fields-bad : isField (drop i s) ≡ false → areFields above left (drop i s) ≡ false
   fields-bad e = fields-step above left (drop i s) h ∙ rw e
 
-  pub fields-low : isField (drop i s) ≡ true → nameBefore above (nameIn (drop i s)) ≡ false → areFields above left (drop i s) ≡ false
+  pub fields-low : isField (drop i s) ≡ true → comesBefore above (nameIn (drop i s)) ≡ false → areFields above left (drop i s) ≡ false
   fields-low e k = fields-step above left (drop i s) h ∙ rw (e, k)
 
-  pub fields-next : (n : List ℕ) → nameIn (drop i s) ≡ n → isField (drop i s) ≡ true → nameBefore above n ≡ true
+  pub fields-next : (n : List ℕ) → nameIn (drop i s) ≡ n → isField (drop i s) ≡ true → comesBefore above n ≡ true
       → areFields above left (drop i s) ≡ areFields n (left - 1) (drop (i + 17) s)
   fields-next n q e k = fields-step above left (drop i s) h ∙ rw (q, e, k, drop-drop 17 i s)
 
@@ -142,17 +134,3 @@ pending-done (suc k) cs s h = absurd (omega arith)
 pub id-of : (cs : List (List ℕ)) (i : ℕ) (s : List ℕ) → pendingIn cs (drop i s) .id ≡ idFrom (area i 16 s)
 unfolding pendingIn
 id-of cs i s = id-at i s
-
-module _ (last : Id) (left : ℕ) (cs : List (List ℕ)) (i : ℕ) (s : List ℕ) where
-  pub up-to-high : 0 < left → atMost (idFrom (area i 16 s)) last ≡ false → pendingUpTo last (allPendingIn left cs (drop i s)) ≡ false
-  unfolding pendingUpTo
-  up-to-high h e = ap (pendingUpTo last) (pending-step left cs i s h) ∙ rw (id-of cs i s, e)
-
-  pub up-to-next : 0 < left → atMost (idFrom (area i 16 s)) last ≡ true
-      → pendingUpTo last (allPendingIn left cs (drop i s)) ≡ pendingUpTo last (allPendingIn (left - 1) cs (drop (i + 27) s))
-  unfolding pendingUpTo
-  up-to-next h e = ap (pendingUpTo last) (pending-step left cs i s h) ∙ rw (id-of cs i s, e)
-
-  pub up-to-done : left ≤ 0 → pendingUpTo last (allPendingIn left cs (drop i s)) ≡ true
-  unfolding pendingUpTo
-  up-to-done h = ap (pendingUpTo last) (pending-done left cs (drop i s) h)

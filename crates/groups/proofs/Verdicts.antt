@@ -1,12 +1,12 @@
 -- What the whole tests of a region answer, return by return; and what a region that is judged sound is. Assumes nothing.
 use mathlib.Core.Path.{_≡_, refl, sym, ap, _∙_, subst}
 use mathlib.Core.Bool.{Bool, true, false}
-use mathlib.Core.List.{List, []}
+use mathlib.Core.List.{List, [], _∷_}
 use mathlib.Core.Option.{Option, some, none}
 use Prim.Native.Nat.{ℕ, _+_, _-_, _*_, _≤_, _<_}
 use native.Mathlib.Omega.{arith}
 use lib.Dec.{eqb}
-use lib.ListN.{length, take, drop}
+use lib.ListN.{length, take, drop, getD}
 use borrow.Author.Tests.{le-leb, lt-leb, eq-eqb, ne-eqb}
 use Rattle.octets.specs.Pick.{pick, both}
 use Rattle.octets.specs.Bytes.{Bytes}
@@ -14,14 +14,16 @@ use Rattle.octets.specs.Place.{area}
 use Rattle.octets.specs.Compare.{allZero}
 use Rattle.octets.proofs.Laws.{part-area}
 use Rattle.id.specs.declared.Id.{Id}
-use Rattle.id.specs.Id.{least}
+use Rattle.id.specs.Id.{least, atMost}
 use Rattle.groups.specs.declared.Judged.the-variants.{Free, Sound, Bad}
 use Rattle.groups.specs.Group.{Group, pendingUpTo, isGroup}
 use Rattle.groups.specs.Bytes.{regionBytes}
-use Rattle.groups.specs.Parse.{isField, areFields, areEntries, consumersIn, entriesIn, deliveredIn, groupIn, namesPass, entriesPass, isRegion, parseRegion}
+use Rattle.groups.specs.Parse.{isField, areFields, areEntries, consumersIn, entriesIn, deliveredIn, groupIn, namesPass, entriesPass, isRegion, parseRegion, namesIn, allPendingIn, restZero}
 use Rattle.groups.specs.Answer.{judgeGroup, judgeOf, SoundRegion}
 use Rattle.groups.proofs.Rules.{rules}
 use Rattle.groups.proofs.Regions.{Tested, tested, is-region, group-of-region, region-parse, region-bytes}
+use Rattle.octets.specs.Maybe.{_>>_, need}
+use Rattle.groups.proofs.Limits.{both-swap, entries-lesser}
 
 -- the rest of a room, lent as a part
 rest-part : (at used room end : ℕ) (s : List ℕ) → end ≡ at + room → used ≤ room
@@ -43,20 +45,28 @@ module _ (s : List ℕ) (n : ℕ) (e : n ≡ consumersIn s) where
   unfolding namesPass
   names-rest h k = rw (← e, le-leb n 16 h, k) (ap allZero (sym (rest-part 34 (n * 17) 272 306 s refl (omega arith))))
 
-module _ (s : List ℕ) (n : ℕ) (e : n ≡ entriesIn s) where
-  pub entries-many : 256 < n → entriesPass s ≡ false
+-- the entries, none of them above the last ID
+module _ (last : Id) (s : List ℕ) (n : ℕ) (e : n ≡ entriesIn s) where
+  pub entries-many : 256 < n → both (entriesPass s) (pendingUpTo last (groupIn s .pending)) ≡ false
   unfolding entriesPass
   entries-many h = rw (← e, lt-leb n 256 h)
 
   module _ (k : ℕ) (f : k ≡ consumersIn s) (i : Id) (d : i ≡ deliveredIn s) where
-    pub entries-refused : n ≤ 256 → areEntries k least i n (drop 308 s) ≡ false → entriesPass s ≡ false
-    unfolding entriesPass
-    entries-refused h t = rw (← e, le-leb n 256 h, ← f, ← d, t)
+    opened : n ≤ 256 → both (entriesPass s) (pendingUpTo last (groupIn s .pending))
+        ≡ both (areEntries k least (pick (atMost i last) i last) n (drop 308 s)) (restZero 308 (n * 27) 6912 s)
+    unfolding entriesPass groupIn
+    opened h =
+        rw (← e, le-leb n 256 h, ← f, ← d)
+        (both-swap (areEntries k least i n (drop 308 s)) (restZero 308 (n * 27) 6912 s) (pendingUpTo last (allPendingIn n (namesIn k (drop 34 s)) (drop 308 s)))
+        ∙ ap (λ (b : Bool). both b (restZero 308 (n * 27) 6912 s)) (sym (entries-lesser k least i last n (namesIn k (drop 34 s)) (drop 308 s))))
 
-    pub entries-rest : n ≤ 256 → areEntries k least i n (drop 308 s) ≡ true
-        → entriesPass s ≡ allZero (drop 0 (take (7220 - (308 + n * 27)) (drop (308 + n * 27) s)))
-    unfolding entriesPass
-    entries-rest h t = rw (← e, le-leb n 256 h, ← f, ← d, t) (ap allZero (sym (rest-part 308 (n * 27) 6912 7220 s refl (omega arith))))
+    module _ (m : Id) (q : m ≡ pick (atMost i last) i last) (h : n ≤ 256) where
+      pub entries-refused : areEntries k least m n (drop 308 s) ≡ false → both (entriesPass s) (pendingUpTo last (groupIn s .pending)) ≡ false
+      entries-refused t = opened h ∙ rw (← q, t)
+
+      pub entries-rest : areEntries k least m n (drop 308 s) ≡ true
+          → both (entriesPass s) (pendingUpTo last (groupIn s .pending)) ≡ allZero (drop 0 (take (7220 - (308 + n * 27)) (drop (308 + n * 27) s)))
+      entries-rest t = opened h ∙ rw (← q, t) (ap allZero (sym (rest-part 308 (n * 27) 6912 7220 s refl (omega arith))))
 
 module _ (s : List ℕ) where
   pub region-size : (length s ≡ 7220 → ⊥) → isRegion s ≡ false
@@ -76,6 +86,16 @@ module _ (s : List ℕ) where
     unfolding isRegion
     region-last e f = rw (eq-eqb (length s) 7220 l, e, f)
 
+-- a region that begins with 0 has no name, and one that does not is not free
+pub zero-no-field : (s : List ℕ) → getD s 0 0 ≡ 0 → isField s ≡ false
+unfolding isField
+zero-no-field s e = rw e
+
+pub used-not-zero : (s : List ℕ) → (getD s 0 0 ≡ 0 → ⊥) → allZero s ≡ false
+unfolding allZero
+used-not-zero [] h = absurd (h refl)
+used-not-zero (x ∷ s) h = rw (ne-eqb x 0 h)
+
 module _ (last : Id) (s : List ℕ) where
   pub judge-size : (length s ≡ 7220 → ⊥) → judgeOf last s ≡ Bad
   unfolding judgeOf parseRegion
@@ -86,18 +106,17 @@ module _ (last : Id) (s : List ℕ) where
     unfolding judgeOf
     judge-free e = rw (eq-eqb (length s) 7220 l, e)
 
-    module _ (e : allZero s ≡ false) where
-      pub judge-bad : isRegion s ≡ false → judgeOf last s ≡ Bad
-      unfolding judgeOf parseRegion
-      judge-bad f = rw (eq-eqb (length s) 7220 l, e, f)
+    pub judge-nameless : getD s 0 0 ≡ 0 → allZero s ≡ false → judgeOf last s ≡ Bad
+    unfolding judgeOf parseRegion
+    judge-nameless z e = rw (eq-eqb (length s) 7220 l, e, region-unnamed s l (zero-no-field s z))
 
-      pub judge-high : isRegion s ≡ true → pendingUpTo last (groupIn s .pending) ≡ false → judgeOf last s ≡ Bad
-      unfolding judgeOf parseRegion
-      judge-high f h = rw (eq-eqb (length s) 7220 l, e, f, h)
+    judge-case : (t : Bool) → judgeGroup last (need t >> some (groupIn s)) ≡ pick (both t (pendingUpTo last (groupIn s .pending))) Sound Bad
+    judge-case true = refl
+    judge-case false = refl
 
-      pub judge-sound : isRegion s ≡ true → pendingUpTo last (groupIn s .pending) ≡ true → judgeOf last s ≡ Sound
-      unfolding judgeOf parseRegion
-      judge-sound f h = rw (eq-eqb (length s) 7220 l, e, f, h)
+    pub judge-used : (getD s 0 0 ≡ 0 → ⊥) → (t : Bool) → both (isRegion s) (pendingUpTo last (groupIn s .pending)) ≡ t → judgeOf last s ≡ pick t Sound Bad
+    unfolding judgeOf parseRegion
+    judge-used h t e = rw (eq-eqb (length s) 7220 l, used-not-zero s h) (judge-case (isRegion s) ∙ ap (λ (b : Bool). pick b Sound Bad) e)
 
 -- a sound region is read as its group
 pub sound-tested : (s : List ℕ) → SoundRegion s → Tested s

@@ -7,11 +7,10 @@ use Prim.Native.Nat.{ℕ, _+_}
 use lib.Dec.{leb, eqb}
 use lib.ListN.{length}
 use Rattle.octets.specs.Pick.{pick, both}
-use Rattle.octets.specs.Compare.{allZero, orderOf, isEqual}
+use Rattle.octets.specs.Compare.{allZero, orderOf}
 use Rattle.octets.specs.declared.Order.{Order}
 use Rattle.octets.specs.declared.Order.the-variants.{Less, Equal, Greater}
 use Rattle.id.specs.declared.Id.{Id}
-use Rattle.id.specs.Id.{idOrder}
 use Rattle.groups.specs.declared.Judged.{Judged}
 use Rattle.groups.specs.declared.Judged.the-variants.{Free, Sound, Bad}
 use Rattle.groups.specs.declared.Spot.{Spot}
@@ -26,6 +25,7 @@ use Rattle.groups.specs.Group.{Pending, Group, mostConsumers, isAmong, p
 use Rattle.groups.specs.Bytes.{placeOf, regionSize, regionBytes}
 use Rattle.groups.specs.Parse.{groupIn, parseRegion}
 use Rattle.groups.specs.Step.{withName, findPending}
+use Rattle.id.specs.Id.{sameId}
 
 -- judge: free is all zero; a sound group has no pending ID above the last ID
 abbrev pub judgeGroup : Id → Option Group → Judged
@@ -57,7 +57,7 @@ placeIn n ns = pick (isAmong n ns) (At (placeOf n ns)) Absent
 -- find pending: the entry's place, its consumer's place, its time and count
 unfoldable pub placeOfId : Id → List Pending → ℕ
 placeOfId i [] = 0
-placeOfId i (p ∷ ps) = pick (isEqual (idOrder (p .id) i)) 0 (1 + placeOfId i ps)
+placeOfId i (p ∷ ps) = pick (sameId (p .id) i) 0 (1 + placeOfId i ps)
 
 abbrev pub heldAs : List (List ℕ) → ℕ → Option Pending → Held
 heldAs consumers k none = Missing

@@ -23,6 +23,16 @@ placeOf n (m ∷ ms) = pick (same n m) 0 (1 + placeOf n ms)
 abbrev pub entryBytes : ℕ
 entryBytes = 27
 
+-- where the parts of an entry begin, after its ID
+abbrev pub placeAt : ℕ
+placeAt = 16
+
+abbrev pub timeAt : ℕ
+timeAt = 17
+
+abbrev pub countAt : ℕ
+countAt = 25
+
 unfoldable pub pendingBytes : List (List ℕ) → Pending → List ℕ
 pendingBytes consumers p =
     idBytes (p .id) ++ (placeOf (p .consumer) consumers ∷ (le 8 (p .time) ++ le 2 (p .count)))
@@ -50,15 +60,18 @@ bodyBytes g =
 abbrev pub padded : ℕ → List ℕ → List ℕ
 padded n bs = bs ++ zeros (n - length bs)
 
+abbrev pub fieldBytes : ℕ
+fieldBytes = 1 + longestName
+
 abbrev pub nameField : List ℕ → List ℕ
-nameField n = padded (1 + longestName) (nameBytes n)
+nameField n = padded fieldBytes (nameBytes n)
 
 unfoldable pub allNameFields : List (List ℕ) → List ℕ
 allNameFields [] = []
 allNameFields (n ∷ ns) = nameField n ++ allNameFields ns
 
 abbrev pub consumersBytes : ℕ
-consumersBytes = mostConsumers * (1 + longestName)
+consumersBytes = mostConsumers * fieldBytes
 
 abbrev pub pendingRoom : ℕ
 pendingRoom = mostPending * entryBytes
@@ -80,5 +93,11 @@ deliveredAt = 17
 abbrev pub consumersAt : ℕ
 consumersAt = 33
 
+abbrev pub fieldsAt : ℕ
+fieldsAt = consumersAt + 1
+
 abbrev pub pendingAt : ℕ
 pendingAt = 306
+
+abbrev pub entriesAt : ℕ
+entriesAt = pendingAt + 2

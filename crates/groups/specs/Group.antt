@@ -8,7 +8,7 @@ use lib.Dec.{leb, ltb}
 use lib.ListN.{length}
 use lib.Pow.{areBytes}
 use Rattle.octets.specs.Pick.{pick, both}
-use Rattle.octets.specs.Compare.{same, orderOf, isLess}
+use Rattle.octets.specs.Compare.{same, comesBefore}
 use Rattle.id.specs.declared.Id.{Id}
 use Rattle.id.specs.Id.{isId, least, below, atMost}
 
@@ -41,18 +41,14 @@ longestName = 16
 abbrev pub isName : List ℕ → Bool
 isName n = both (both (leb 1 (length n)) (leb (length n) longestName)) (areBytes n)
 
--- the index's order: bytewise, a prefix first
-abbrev pub nameBefore : List ℕ → List ℕ → Bool
-nameBefore a b = isLess (orderOf a b)
-
 unfoldable pub areNames : List (List ℕ) → Bool
 areNames [] = true
 areNames (n ∷ ns) = both (isName n) (areNames ns)
 
--- rising names, so no two are one
+-- names that rise in the index's order (bytewise, a prefix first), so no two are one
 unfoldable pub namesAbove : List ℕ → List (List ℕ) → Bool
 namesAbove n [] = true
-namesAbove n (m ∷ ms) = both (nameBefore n m) (namesAbove m ms)
+namesAbove n (m ∷ ms) = both (comesBefore n m) (namesAbove m ms)
 
 unfoldable pub risingNames : List (List ℕ) → Bool
 risingNames [] = true

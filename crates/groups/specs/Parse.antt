@@ -1,22 +1,22 @@
 -- Strict reading of a group's region and of its body in a snapshot: the group, or none. It is some group exactly when the bytes
 -- are that group's and it keeps the rules (proofs/Laws: region-parse, region-bytes, body-parse, body-bytes). Each reading is a test
 -- of the bytes, in the code's order, and what is read of them. Assumes nothing.
-use mathlib.Core.Bool.{Bool, true, false}
+use mathlib.Core.Bool.{Bool, true}
 use mathlib.Core.List.{List, [], _∷_}
 use mathlib.Core.Option.{Option, some, none}
 use Prim.Native.Nat.{ℕ, zero, suc, _+_, _-_, _*_}
 use lib.Dec.{leb, ltb, eqb}
 use lib.ListN.{length, drop, getD}
-use Rattle.octets.specs.Pick.{pick, both}
+use Rattle.octets.specs.Pick.{both}
 use Rattle.octets.specs.Maybe.{_>>=_, _>>_, need}
 use Rattle.octets.specs.Bytes.{leValue}
 use Rattle.octets.specs.Place.{area, Taken, takeBytes}
-use Rattle.octets.specs.Compare.{allZero}
+use Rattle.octets.specs.Compare.{allZero, comesBefore}
 use Rattle.id.specs.declared.Id.{Id}
 use Rattle.id.specs.Id.{least, below, atMost}
 use Rattle.id.specs.Bytes.{idFrom}
-use Rattle.groups.specs.Group.{Pending, Group, longestName, mostConsumers, mostPending, nameBefore}
-use Rattle.groups.specs.Bytes.{entryBytes, regionSize, deliveredAt, consumersAt, pendingAt, consumersBytes, pendingRoom}
+use Rattle.groups.specs.Group.{Pending, Group, longestName, mostConsumers, mostPending}
+use Rattle.groups.specs.Bytes.{entryBytes, placeAt, timeAt, countAt, fieldBytes, regionSize, deliveredAt, consumersAt, fieldsAt, pendingAt, entriesAt, consumersBytes, pendingRoom}
 
 -- the field of 17 bytes at the start of s: its name, and that it is a name of 1 to 16 bytes and zeros
 unfoldable pub nameIn : List ℕ → List ℕ
@@ -30,12 +30,12 @@ isField s =
 -- so many fields: their names, and that the names rise above one
 unfoldable pub namesIn : ℕ → List ℕ → List (List ℕ)
 namesIn zero s = []
-namesIn (suc n) s = nameIn s ∷ namesIn n (drop (1 + longestName) s)
+namesIn (suc n) s = nameIn s ∷ namesIn n (drop fieldBytes s)
 
 unfoldable pub areFields : List ℕ → ℕ → List ℕ → Bool
 areFields above zero s = true
 areFields above (suc n) s =
-    both (both (isField s) (nameBefore above (nameIn s))) (areFields (nameIn s) n (drop (1 + longestName) s))
+    both (both (isField s) (comesBefore above (nameIn s))) (areFields (nameIn s) n (drop fieldBytes s))
 
 -- the pending entry at the start of s. Its consumer's place is below the number of consumers, its count at least 1, its ID above one
 -- ID and at most another
@@ -46,14 +46,14 @@ unfoldable pub pendingIn : List (List ℕ) → List ℕ → Pending
 pendingIn consumers s =
     record {
       id = entryId s;
-      consumer = getD consumers (getD s 16 0) [];
-      time = leValue (area 17 8 s);
-      count = leValue (area 25 2 s);
+      consumer = getD consumers (getD s placeAt 0) [];
+      time = leValue (area timeAt 8 s);
+      count = leValue (area countAt 2 s);
     }
 
 unfoldable pub isEntry : ℕ → Id → Id → List ℕ → Bool
 isEntry consumers above most s =
-    both (both (ltb (getD s 16 0) consumers) (leb 1 (leValue (area 25 2 s))))
+    both (both (ltb (getD s placeAt 0) consumers) (leb 1 (leValue (area countAt 2 s))))
     (both (below above (entryId s)) (atMost (entryId s) most))
 
 -- so many entries, rising above an ID
@@ -82,26 +82,26 @@ deliveredIn s = idFrom (area deliveredAt 16 s)
 
 unfoldable pub groupIn : List ℕ → Group
 groupIn s =
-    let consumers : List (List ℕ) = namesIn (consumersIn s) (drop (consumersAt + 1) s) in
+    let consumers : List (List ℕ) = namesIn (consumersIn s) (drop fieldsAt s) in
     record {
       name = nameIn s;
       delivered = deliveredIn s;
       consumers = consumers;
-      pending = allPendingIn (entriesIn s) consumers (drop (pendingAt + 2) s);
+      pending = allPendingIn (entriesIn s) consumers (drop entriesAt s);
     }
 
 -- the tests of the consumers and of the entries
 unfoldable pub namesPass : List ℕ → Bool
 namesPass s =
     both (leb (consumersIn s) mostConsumers)
-    (both (areFields [] (consumersIn s) (drop (consumersAt + 1) s))
-    (restZero (consumersAt + 1) (consumersIn s * (1 + longestName)) consumersBytes s))
+    (both (areFields [] (consumersIn s) (drop fieldsAt s))
+    (restZero fieldsAt (consumersIn s * fieldBytes) consumersBytes s))
 
 unfoldable pub entriesPass : List ℕ → Bool
 entriesPass s =
     both (leb (entriesIn s) mostPending)
-    (both (areEntries (consumersIn s) least (deliveredIn s) (entriesIn s) (drop (pendingAt + 2) s))
-    (restZero (pendingAt + 2) (entriesIn s * entryBytes) pendingRoom s))
+    (both (areEntries (consumersIn s) least (deliveredIn s) (entriesIn s) (drop entriesAt s))
+    (restZero entriesAt (entriesIn s * entryBytes) pendingRoom s))
 
 unfoldable pub isRegion : List ℕ → Bool
 isRegion s = both (eqb (length s) regionSize) (both (isField s) (both (namesPass s) (entriesPass s)))
@@ -127,7 +127,7 @@ unfoldable pub takeNames : List ℕ → ℕ → List ℕ → Option TakenNames
 takeNames above zero s = some (record { names = []; rest = s })
 takeNames above (suc n) s = do
   x ← takeName s
-  need (nameBefore above (x .bytes))
+  need (comesBefore above (x .bytes))
   xs ← takeNames (x .bytes) n (x .rest)
   some (record { names = x .bytes ∷ xs .names; rest = xs .rest })
 

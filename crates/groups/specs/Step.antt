@@ -1,20 +1,17 @@
 -- What happens to a group, and to the groups (01, Commands). Assumes nothing.
-use mathlib.Core.Bool.{Bool, true, false}
 use mathlib.Core.List.{List, [], _∷_}
 use mathlib.Core.Option.{Option, some, none}
 use Prim.Native.Nat.{ℕ, _+_, _-_, min}
-use lib.Dec.{leb}
-use lib.ListN.{length}
-use Rattle.octets.specs.Pick.{pick, both}
-use Rattle.octets.specs.Compare.{same, isEqual}
+use Rattle.octets.specs.Pick.{pick}
+use Rattle.octets.specs.Compare.{same, comesBefore}
 use Rattle.id.specs.declared.Id.{Id}
-use Rattle.id.specs.Id.{idOrder, below}
-use Rattle.groups.specs.Group.{Pending, Group, mostCount, nameBefore, isAmong}
+use Rattle.id.specs.Id.{below, sameId}
+use Rattle.groups.specs.Group.{Pending, Group, mostCount}
 
 -- a new consumer goes to its place
 unfoldable pub withName : List ℕ → List (List ℕ) → List (List ℕ)
 withName n [] = n ∷ []
-withName n (m ∷ ms) = pick (same n m) (m ∷ ms) (pick (nameBefore n m) (n ∷ (m ∷ ms)) (m ∷ withName n ms))
+withName n (m ∷ ms) = pick (same n m) (m ∷ ms) (pick (comesBefore n m) (n ∷ (m ∷ ms)) (m ∷ withName n ms))
 
 unfoldable pub withoutName : List ℕ → List (List ℕ) → List (List ℕ)
 withoutName n [] = []
@@ -22,18 +19,18 @@ withoutName n (m ∷ ms) = pick (same n m) ms (m ∷ withoutName n ms)
 
 unfoldable pub findPending : Id → List Pending → Option Pending
 findPending i [] = none
-findPending i (p ∷ ps) = pick (isEqual (idOrder (p .id) i)) (some p) (findPending i ps)
+findPending i (p ∷ ps) = pick (sameId (p .id) i) (some p) (findPending i ps)
 
 -- an entry goes to its place, and one of the same ID gives way
 unfoldable pub putPending : Pending → List Pending → List Pending
 putPending p [] = p ∷ []
 putPending p (q ∷ qs) =
-    pick (isEqual (idOrder (p .id) (q .id))) (p ∷ qs)
+    pick (sameId (p .id) (q .id)) (p ∷ qs)
     (pick (below (p .id) (q .id)) (p ∷ (q ∷ qs)) (q ∷ putPending p qs))
 
 unfoldable pub withoutPending : Id → List Pending → List Pending
 withoutPending i [] = []
-withoutPending i (p ∷ ps) = pick (isEqual (idOrder (p .id) i)) ps (p ∷ withoutPending i ps)
+withoutPending i (p ∷ ps) = pick (sameId (p .id) i) ps (p ∷ withoutPending i ps)
 
 -- that consumer's entries, and the others
 unfoldable pub pendingOf : List ℕ → List Pending → List Pending
@@ -101,7 +98,7 @@ unfoldable pub putGroup : Group → List Group → List Group
 putGroup g [] = g ∷ []
 putGroup g (h ∷ hs) =
     pick (same (g .name) (h .name)) (g ∷ hs)
-    (pick (nameBefore (g .name) (h .name)) (g ∷ (h ∷ hs)) (h ∷ putGroup g hs))
+    (pick (comesBefore (g .name) (h .name)) (g ∷ (h ∷ hs)) (h ∷ putGroup g hs))
 
 unfoldable pub withoutGroup : List ℕ → List Group → List Group
 withoutGroup n [] = []

@@ -4,44 +4,46 @@ ghost use mathlib.Core.Path.{_≡_};
 ghost use Prim.Native.Nat.{_+_, _*_, _≤_};
 ghost use lib.ListN.{length, drop};
 ghost use mathlib.Core.List.{[]};
-ghost use Rattle.id.specs.Id.{least};
-ghost use Rattle.groups.specs.Group.{nameBefore, pendingUpTo};
-ghost use Rattle.groups.specs.Parse.{isField, areFields, isEntry, areEntries, entriesIn, groupIn, namesPass, entriesPass, isRegion};
+ghost use Rattle.octets.specs.Pick.{pick, both};
+ghost use Rattle.id.specs.Id.{least, atMost};
+ghost use Rattle.groups.specs.Group.{pendingUpTo};
+ghost use Rattle.groups.specs.Bytes.{fieldBytes, entryBytes, regionSize};
+ghost use Rattle.groups.specs.Parse.{isField, areFields, isEntry, areEntries, groupIn, namesPass, entriesPass, isRegion};
 ghost use Rattle.groups.specs.Answer.{judgeOf};
+use crate::CONSUMERS_AT;
+use crate::COUNT_AT;
+use crate::DELIVERED_AT;
+use crate::ENTRIES_AT;
+use crate::ENTRY_BYTES;
+use crate::FIELD_BYTES;
+use crate::FIELDS_AT;
 use crate::Judged;
+use crate::LONGEST_NAME;
+use crate::MOST_CONSUMERS;
+use crate::MOST_PENDING;
+use crate::PENDING_AT;
+use crate::PLACE_AT;
+use crate::REGION_BYTES;
 use id::Id;
-use octets::Order;
-
-pub const REGION_BYTES: usize = 7220;
-
-fn is_before(a: &[u8], b: &[u8]) -> bool
-    ensures { λ r. ⌜ r ≡ nameBefore (now (a .entry)) (now (b .entry)) ⌝ }
-{
-    match octets::compare(a, b) {
-        Order::Less => true,
-        Order::Equal => false,
-        Order::Greater => false,
-    }
-}
 
 // A name of 1 to 16 bytes, and zeros.
 fn is_field(s: &[u8], at: usize) -> bool
-    requires { ⌜ at + 17 ≤ length (now s) ⌝ }
+    requires { ⌜ at + fieldBytes ≤ length (now s) ⌝ }
     ensures { λ r. ⌜ r ≡ isField (drop at (now (s .entry))) ⌝ }
 {
     let n = octets::wide(s[at]) as usize;
     if n < 1 {
         return false;
     }
-    if 16 < n {
+    if LONGEST_NAME < n {
         return false;
     }
-    octets::all_zero_from(&s[at + 1 + n..at + 17], 0)
+    octets::all_zero_from(&s[at + 1 + n..at + FIELD_BYTES], 0)
 }
 
 // So many fields whose names rise; the name before lies at from.
 fn fields_rise(s: &[u8], at: usize, count: usize) -> bool
-    requires { ⌜ at + count * 17 ≤ length (now s) ⌝ }
+    requires { ⌜ at + count * fieldBytes ≤ length (now s) ⌝ }
     ensures { λ r. ⌜ r ≡ areFields [] count (drop at (now (s .entry))) ⌝ }
 {
     let mut i = at;
@@ -53,26 +55,26 @@ fn fields_rise(s: &[u8], at: usize, count: usize) -> bool
             return false;
         }
         let n = octets::wide(s[i]) as usize;
-        if !is_before(&s[from..from + size], &s[i + 1..i + 1 + n]) {
+        if !octets::comes_before(&s[from..from + size], &s[i + 1..i + 1 + n]) {
             return false;
         }
         from = i + 1;
         size = n;
-        i += 17;
+        i += FIELD_BYTES;
         left -= 1;
     }
     true
 }
 
 fn is_entry(s: &[u8], at: usize, consumers: usize, above: Id, most: Id) -> bool
-    requires { ⌜ at + 27 ≤ length (now s) ⌝ }
+    requires { ⌜ at + entryBytes ≤ length (now s) ⌝ }
     ensures { λ r. ⌜ r ≡ isEntry consumers above most (drop at (now (s .entry))) ⌝ }
 {
-    let place = octets::wide(s[at + 16]) as usize;
+    let place = octets::wide(s[at + PLACE_AT]) as usize;
     if consumers <= place {
         return false;
     }
-    if octets::read_le(s, at + 25, 2) < 1 {
+    if octets::read_le(s, at + COUNT_AT, 2) < 1 {
         return false;
     }
     let id = id::read_id(s, at);
@@ -84,7 +86,7 @@ fn is_entry(s: &[u8], at: usize, consumers: usize, above: Id, most: Id) -> bool
 
 // So many entries with rising IDs. A body of a snapshot is tested by it too.
 pub fn entries_rise(s: &[u8], at: usize, count: usize, consumers: usize, most: Id) -> bool
-    requires { ⌜ at + count * 27 ≤ length (now s) ⌝ }
+    requires { ⌜ at + count * entryBytes ≤ length (now s) ⌝ }
     ensures { λ r. ⌜ r ≡ areEntries consumers least most count (drop at (now (s .entry))) ⌝ }
 {
     let mut above = Id::LEAST;
@@ -95,87 +97,80 @@ pub fn entries_rise(s: &[u8], at: usize, count: usize, consumers: usize, most: I
             return false;
         }
         above = id::read_id(s, i);
-        i += 27;
+        i += ENTRY_BYTES;
         left -= 1;
     }
     true
 }
 
 fn names_pass(s: &[u8]) -> bool
-    requires { ⌜ length (now s) ≡ 7220 ⌝ }
+    requires { ⌜ length (now s) ≡ regionSize ⌝ }
     ensures { λ r. ⌜ r ≡ namesPass (now (s .entry)) ⌝ }
 {
-    let n = octets::wide(s[33]) as usize;
-    if 16 < n {
+    let n = octets::wide(s[CONSUMERS_AT]) as usize;
+    if MOST_CONSUMERS < n {
         return false;
     }
-    if !fields_rise(s, 34, n) {
+    if !fields_rise(s, FIELDS_AT, n) {
         return false;
     }
-    octets::all_zero_from(&s[34 + n * 17..306], 0)
+    octets::all_zero_from(&s[FIELDS_AT + n * FIELD_BYTES..PENDING_AT], 0)
 }
 
-fn entries_pass(s: &[u8]) -> bool
-    requires { ⌜ length (now s) ≡ 7220 ⌝ }
-    ensures { λ r. ⌜ r ≡ entriesPass (now (s .entry)) ⌝ }
+fn lesser(a: Id, b: Id) -> Id
+    ensures { λ r. ⌜ r ≡ pick (atMost a b) a b ⌝ }
 {
-    let n = octets::read_le(s, 306, 2) as usize;
-    if 256 < n {
-        return false;
+    if a.is_at_most(b) {
+        return a;
     }
-    let consumers = octets::wide(s[33]) as usize;
-    if !entries_rise(s, 308, n, consumers, id::read_id(s, 17)) {
-        return false;
-    }
-    octets::all_zero_from(&s[308 + n * 27..7220], 0)
+    b
 }
 
-fn is_region(s: &[u8]) -> bool
-    ensures { λ r. ⌜ r ≡ isRegion (now (s .entry)) ⌝ }
+// The entries, none of them above the last ID: one limit, the lesser of it and the last delivered ID, serves both rules in one walk.
+fn entries_pass(s: &[u8], last: Id) -> bool
+    requires { ⌜ length (now s) ≡ regionSize ⌝ }
+    ensures { λ r. ⌜ r ≡ both (entriesPass (now (s .entry))) (pendingUpTo last (groupIn (now (s .entry)) .pending)) ⌝ }
 {
-    if s.len() != REGION_BYTES {
+    let n = octets::read_le(s, PENDING_AT, 2) as usize;
+    if MOST_PENDING < n {
         return false;
     }
+    let consumers = octets::wide(s[CONSUMERS_AT]) as usize;
+    let most = lesser(id::read_id(s, DELIVERED_AT), last);
+    if !entries_rise(s, ENTRIES_AT, n, consumers, most) {
+        return false;
+    }
+    octets::all_zero_from(&s[ENTRIES_AT + n * ENTRY_BYTES..REGION_BYTES], 0)
+}
+
+// The region of a group that keeps the rules, with no pending ID above the last ID.
+pub fn is_region(s: &[u8], last: Id) -> bool
+    requires { ⌜ length (now s) ≡ regionSize ⌝ }
+    ensures { λ r. ⌜ r ≡ both (isRegion (now (s .entry))) (pendingUpTo last (groupIn (now (s .entry)) .pending)) ⌝ }
+{
     if !is_field(s, 0) {
         return false;
     }
     if !names_pass(s) {
         return false;
     }
-    entries_pass(s)
+    entries_pass(s, last)
 }
 
-// No pending ID of the region is above the last ID.
-fn pending_up_to(s: &[u8], last: Id) -> bool
-    requires { ⌜ 308 + entriesIn (now s) * 27 ≤ length (now s) ⌝ }
-    ensures { λ r. ⌜ r ≡ pendingUpTo last (groupIn (now (s .entry)) .pending) ⌝ }
-{
-    let mut i = 308;
-    let mut left = octets::read_le(s, 306, 2) as usize;
-    while 0 < left {
-        let id = id::read_id(s, i);
-        if !id.is_at_most(last) {
-            return false;
-        }
-        i += 27;
-        left -= 1;
-    }
-    true
-}
-
+// A region that begins with 0 has no name: it is free or bad.
 pub fn judge(s: &[u8], last: Id) -> Judged
     ensures { λ r. ⌜ r ≡ judgeOf last (now (s .entry)) ⌝ }
 {
     if s.len() != REGION_BYTES {
         return Judged::Bad;
     }
-    if octets::all_zero_from(s, 0) {
-        return Judged::Free;
-    }
-    if !is_region(s) {
+    if s[0] == 0 {
+        if octets::all_zero_from(s, 0) {
+            return Judged::Free;
+        }
         return Judged::Bad;
     }
-    if !pending_up_to(s, last) {
+    if !is_region(s, last) {
         return Judged::Bad;
     }
     Judged::Sound

@@ -3,10 +3,41 @@
 
 use id::Id;
 
+// Where the parts of a region begin and how long they are: the definitions of the same names in specs/Group and specs/Bytes.
+pub const LONGEST_NAME: usize = 16;
+
+pub const MOST_CONSUMERS: usize = 16;
+
+pub const MOST_PENDING: usize = 256;
+
+pub const REGION_BYTES: usize = 7220;
+
+pub const DELIVERED_AT: usize = 17;
+
+pub const CONSUMERS_AT: usize = 33;
+
+pub const FIELDS_AT: usize = 34;
+
+pub const FIELD_BYTES: usize = 17;
+
+pub const PENDING_AT: usize = 306;
+
+pub const ENTRIES_AT: usize = 308;
+
+pub const ENTRY_BYTES: usize = 27;
+
+// In an entry: its consumer's place, time and count.
+pub const PLACE_AT: usize = 16;
+
+pub const TIME_AT: usize = 17;
+
+pub const COUNT_AT: usize = 25;
+
 mod judging;
 mod reading;
 
 pub use judging::entries_rise;
+pub use judging::is_region;
 pub use judging::judge;
 pub use reading::consumer_count;
 pub use reading::delivered;

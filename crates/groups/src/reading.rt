@@ -6,15 +6,27 @@ ghost use Prim.Native.Nat.{_+_, _≤_, _<_};
 ghost use lib.ListN.{length, drop, getD};
 ghost use lib.Dec.{eqb};
 ghost use Rattle.octets.specs.Pick.{both};
-ghost use Rattle.octets.specs.Compare.{same, isEqual};
-ghost use Rattle.id.specs.Id.{idOrder, below};
+ghost use Rattle.octets.specs.Compare.{same};
+ghost use Rattle.id.specs.Id.{below};
+ghost use Rattle.groups.specs.Group.{mostConsumers, mostPending};
+ghost use Rattle.groups.specs.Bytes.{entryBytes, placeAt};
 ghost use Rattle.groups.specs.Parse.{entryId, groupIn};
 ghost use Rattle.groups.specs.Step.{nextPending};
 ghost use Rattle.groups.specs.Answer.{SoundRegion, spotFrom, placeIn, heldIn, nextAs};
+use crate::CONSUMERS_AT;
+use crate::COUNT_AT;
+use crate::DELIVERED_AT;
+use crate::ENTRIES_AT;
+use crate::ENTRY_BYTES;
+use crate::FIELD_BYTES;
+use crate::FIELDS_AT;
 use crate::Held;
 use crate::Next;
+use crate::PENDING_AT;
+use crate::PLACE_AT;
 use crate::Place;
 use crate::Spot;
+use crate::TIME_AT;
 use id::Id;
 use octets::Order;
 
@@ -22,21 +34,21 @@ pub fn delivered(region: &[u8]) -> Id
     requires { ⌜ SoundRegion (now region) ⌝ }
     ensures { λ r. ⌜ r ≡ groupIn (now (region .entry)) .delivered ⌝ }
 {
-    id::read_id(region, 17)
+    id::read_id(region, DELIVERED_AT)
 }
 
 pub fn consumer_count(region: &[u8]) -> usize
     requires { ⌜ SoundRegion (now region) ⌝ }
-    ensures { λ r. ⌜ (r ≡ length (groupIn (now (region .entry)) .consumers)) × (r ≤ 16) ⌝ }
+    ensures { λ r. ⌜ (r ≡ length (groupIn (now (region .entry)) .consumers)) × (r ≤ mostConsumers) ⌝ }
 {
-    octets::wide(region[33]) as usize
+    octets::wide(region[CONSUMERS_AT]) as usize
 }
 
 pub fn pending_count(region: &[u8]) -> usize
     requires { ⌜ SoundRegion (now region) ⌝ }
-    ensures { λ r. ⌜ (r ≡ length (groupIn (now (region .entry)) .pending)) × (r ≤ 256) ⌝ }
+    ensures { λ r. ⌜ (r ≡ length (groupIn (now (region .entry)) .pending)) × (r ≤ mostPending) ⌝ }
 {
-    octets::read_le(region, 306, 2) as usize
+    octets::read_le(region, PENDING_AT, 2) as usize
 }
 
 pub fn has_name(region: &[u8], name: &[u8]) -> bool
@@ -54,7 +66,7 @@ pub fn spot_of(region: &[u8], name: &[u8]) -> Spot
 {
     let mut left = consumer_count(region);
     let mut k = 0;
-    let mut at = 34;
+    let mut at = FIELDS_AT;
     while 0 < left {
         let n = octets::wide(region[at]) as usize;
         match octets::compare(name, &region[at + 1..at + 1 + n]) {
@@ -62,7 +74,7 @@ pub fn spot_of(region: &[u8], name: &[u8]) -> Spot
             Order::Equal => return Spot::Known(k),
             Order::Greater => {}
         }
-        at += 17;
+        at += FIELD_BYTES;
         k += 1;
         left -= 1;
     }
@@ -79,30 +91,20 @@ pub fn find_consumer(region: &[u8], name: &[u8]) -> Place
     }
 }
 
-fn is_same(a: Id, b: Id) -> bool
-    ensures { λ r. ⌜ r ≡ isEqual (idOrder a b) ⌝ }
-{
-    match a.order(b) {
-        Order::Less => false,
-        Order::Equal => true,
-        Order::Greater => false,
-    }
-}
-
 pub fn find_pending(region: &[u8], id: Id) -> Held
     requires { ⌜ SoundRegion (now region) ⌝ }
     ensures { λ r. ⌜ r ≡ heldIn id (groupIn (now (region .entry))) ⌝ }
 {
     let mut left = pending_count(region);
     let mut k = 0;
-    let mut at = 308;
+    let mut at = ENTRIES_AT;
     while 0 < left {
-        if is_same(id::read_id(region, at), id) {
-            let consumer = octets::wide(region[at + 16]) as usize;
-            let time = octets::read_le(region, at + 17, 8);
-            return Held::Entry(k, consumer, time, octets::read_le(region, at + 25, 2));
+        if id::read_id(region, at).is_same(id) {
+            let consumer = octets::wide(region[at + PLACE_AT]) as usize;
+            let time = octets::read_le(region, at + TIME_AT, 8);
+            return Held::Entry(k, consumer, time, octets::read_le(region, at + COUNT_AT, 2));
         }
-        at += 27;
+        at += ENTRY_BYTES;
         k += 1;
         left -= 1;
     }
@@ -111,10 +113,10 @@ pub fn find_pending(region: &[u8], id: Id) -> Held
 
 // Is the entry that consumer's, and above the ID?
 fn is_next(region: &[u8], at: usize, consumer: usize, after: Id) -> bool
-    requires { ⌜ at + 27 ≤ length (now region) ⌝ }
-    ensures { λ r. ⌜ r ≡ both (eqb (getD (drop at (now (region .entry))) 16 0) consumer) (below after (entryId (drop at (now (region .entry))))) ⌝ }
+    requires { ⌜ at + entryBytes ≤ length (now region) ⌝ }
+    ensures { λ r. ⌜ r ≡ both (eqb (getD (drop at (now (region .entry))) placeAt 0) consumer) (below after (entryId (drop at (now (region .entry))))) ⌝ }
 {
-    let place = octets::wide(region[at + 16]) as usize;
+    let place = octets::wide(region[at + PLACE_AT]) as usize;
     if place != consumer {
         return false;
     }
@@ -127,14 +129,14 @@ fn next_of(region: &[u8], consumer: usize, after: Id) -> Next
     ensures { λ r. ⌜ r ≡ nextAs (nextPending (getD (groupIn (now (region .entry)) .consumers) consumer []) after (groupIn (now (region .entry)))) ⌝ }
 {
     let mut left = pending_count(region);
-    let mut at = 308;
+    let mut at = ENTRIES_AT;
     while 0 < left {
         if is_next(region, at, consumer, after) {
             let id = id::read_id(region, at);
-            let time = octets::read_le(region, at + 17, 8);
-            return Next::Given(id, time, octets::read_le(region, at + 25, 2));
+            let time = octets::read_le(region, at + TIME_AT, 8);
+            return Next::Given(id, time, octets::read_le(region, at + COUNT_AT, 2));
         }
-        at += 27;
+        at += ENTRY_BYTES;
         left -= 1;
     }
     Next::Nothing

@@ -11,20 +11,19 @@ use lib.Seq.{split-at, length-take-le}
 use Rattle.octets.specs.Bytes.{le}
 use Rattle.octets.specs.Place.{put, spliced}
 use Rattle.id.specs.declared.Id.{Id}
-use Rattle.id.specs.Bytes.{idBytes}
 use Rattle.groups.specs.declared.Held.the-variants.{Entry, Missing}
 use Rattle.groups.specs.Group.{Pending, Group, isAmong}
 use Rattle.groups.specs.Bytes.{regionBytes}
 use Rattle.groups.specs.Parse.{groupIn}
 use Rattle.groups.specs.Step.{idle, findPending, acknowledge}
 use Rattle.groups.specs.Answer.{SoundRegion, placeOfId, heldAs, heldIn, lacksConsumer}
-use Rattle.groups.proofs.Laws.{Rules, stands, without-absent}
-use Rattle.groups_change.specs.Change.{withDelivered, withPending, withoutAt, deliverAnswer, claimAnswer}
+use Rattle.groups.proofs.Laws.{Rules, stands}
+use Rattle.groups_change.specs.Change.{withPending, withoutAt, deliverAnswer, claimAnswer}
 use Rattle.groups_change.specs.declared.Delivery.the-variants.{Done, Refused}
 use Rattle.groups_change.specs.declared.Claimed.the-variants.{Moved, NotMoved, Refused as ClaimRefused}
 use borrow.Author.Tests.{le-leb, lt-leb}
 use Rattle.groups_change.proofs.Moves.{nobody}
-use Rattle.groups_change.proofs.Shapes.{shape, region-shape, sound-rules, sound-short, sound-shape, shape-delivered, shape-number, shape-remove}
+use Rattle.groups_change.proofs.Shapes.{shape, region-shape, sound-rules, sound-short, sound-shape, shape-number, shape-remove}
 
 -- the parts of a sound region
 module _ (s : List ℕ) (h : SoundRegion s) where
@@ -36,12 +35,6 @@ module _ (s : List ℕ) (h : SoundRegion s) where
 
   short : length (groupIn s .name) ≤ 16
   short = sound-short s h
-
-  pub delivered-set : (i : Id) → put s 17 (idBytes i) ≡ regionBytes (withDelivered i (groupIn s))
-  delivered-set i =
-      ap (λ (l : List ℕ). put l 17 (idBytes i)) (sound-shape s h)
-      ∙ shape-delivered (g .name) (g .delivered) (length (g .consumers)) short i (g .consumers) (length (g .pending)) (g .consumers) (g .pending)
-      ∙ sym (region-shape (withDelivered i g))
 
   -- an entry taken out
   pub entry-removed : (n i : ℕ) → n ≡ length (g .pending) → i < length (g .pending)
@@ -98,10 +91,6 @@ pub acknowledge-found : (i : Id) (g : Group) (p : Pending) → findPending i (g 
     → withPending (withoutAt (placeOfId i (g .pending)) (g .pending)) g ≡ acknowledge i g
 unfolding acknowledge
 acknowledge-found i g p f = ap (λ (l : List Pending). withPending l g) (sym (stands i (g .pending) p f .without))
-
-pub acknowledge-missing : (i : Id) (g : Group) → findPending i (g .pending) ≡ none → g ≡ acknowledge i g
-unfolding acknowledge
-acknowledge-missing i g f = ap (λ (l : List Pending). withPending l g) (sym (without-absent i (g .pending) f))
 
 -- is there room for the consumer?
 pub lacks-known : (c : List ℕ) (g : Group) → isAmong c (g .consumers) ≡ true → lacksConsumer c g ≡ false

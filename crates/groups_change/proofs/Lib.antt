@@ -4,4 +4,5 @@ mod Shapes
 mod Rows
 mod Changes
 mod Members
+mod Gathered
 mod Dropped

@@ -1,24 +1,13 @@
 -- Bytes put or spliced between what stands before and after. Assumes nothing.
 use mathlib.Core.Path.{_≡_, sym, ap, ap₂, _∙_}
 use mathlib.Core.List.{List, _++_, append-assoc}
-use Prim.Native.Nat.{ℕ, zero, suc, _+_, _-_, max}
+use Prim.Native.Nat.{ℕ, _+_, _-_, max}
 use native.Mathlib.Omega.{arith}
 use lib.ListN.{length, take, drop, length-append}
 use lib.Seq.{take-at, drop-append-add}
 use Rattle.octets.specs.Bytes.{zeros}
 use Rattle.octets.specs.Place.{area, put, spliced, splicedEnd}
 use Rattle.octets.proofs.Laws.{area-middle}
-
-pub drop-zeros : (m n : ℕ) → drop m (zeros n) ≡ zeros (n - m)
-drop-zeros zero n = let e : n ≡ n - 0 = omega arith in ap zeros e
-drop-zeros (suc m) zero = let e : 0 ≡ 0 - suc m = omega arith in ap zeros e
-drop-zeros (suc m) (suc n) = let e : n - m ≡ suc n - suc m = omega arith in drop-zeros m n ∙ ap zeros e
-
-pub put-at : (x t e : List ℕ) (at : ℕ) → length x ≡ at → put (x ++ t) at e ≡ x ++ (e ++ drop (length e) t)
-unfolding put
-put-at x t e at h =
-    let q : at + length e ≡ length x + length e = omega arith in
-    ap₂ (λ (a z : List ℕ). a ++ (e ++ z)) (take-at x t at h) (ap (λ (k : ℕ). drop k (x ++ t)) q ∙ drop-append-add x t (length e))
 
 pub spliced-at : (x e y t new : List ℕ) (used at gone : ℕ) → length x ≡ at → length e ≡ gone → used ≡ at + gone + length y
     → spliced (x ++ (e ++ (y ++ t))) used at gone new ≡ x ++ (new ++ (y ++ (zeros (gone - length new) ++ drop (length new - gone) t)))

@@ -11,7 +11,7 @@ use Rattle.octets.specs.Pick.{pick, both}
 use Rattle.octets.specs.Bytes.{le}
 use Rattle.octets.specs.Place.{put, spliced}
 use Rattle.octets.specs.Compare.{same}
-use Rattle.octets.proofs.Laws.{both-true, same-true}
+use Rattle.octets.proofs.Laws.{both-true, same-true, never, both-of}
 use Rattle.id.specs.declared.Id.{Id}
 use Rattle.id.specs.Id.{least, below}
 use Rattle.id.specs.Bytes.{idBytes}
@@ -21,7 +21,7 @@ use Rattle.groups.specs.Bytes.{placeOf, pendingBytes, allPending, nameField, re
 use Rattle.groups.specs.Parse.{groupIn}
 use Rattle.groups.specs.Step.{withName, withoutName, findPending, putPending, pendingOf, deliver, claim}
 use Rattle.groups.specs.Answer.{SoundRegion, spotFrom, placeOfId, lacksConsumer, withConsumer}
-use Rattle.groups.proofs.Laws.{Rules, rules-with, named, never, both-of, same-swap, empty-before, placed, place-getD, among-getD, above-with, with-known, without-cut, allOf, all-more, entries-all, entry, put-last, put-found, stands, new-spot}
+use Rattle.groups.proofs.Laws.{Rules, rules-with, named, same-swap, empty-before, placed, place-getD, among-getD, above-with, with-known, without-cut, allOf, all-more, entries-all, entry, put-last, put-found, stands, new-spot}
 use Rattle.groups_change.specs.Places.{movedPlace, placesMoved}
 use Rattle.groups_change.specs.Change.{withoutConsumer, rowOf}
 use Rattle.groups_change.proofs.Moves.{place-up, place-down, entries-moved}

@@ -11,14 +11,14 @@ use borrow.Author.Tests.{lt-ltb, le-ltb}
 use Rattle.octets.specs.Pick.{pick}
 use Rattle.octets.specs.Bytes.{le}
 use Rattle.octets.specs.Compare.{same}
-use Rattle.octets.proofs.Laws.{pick-lt}
+use Rattle.octets.proofs.Laws.{pick-lt, never}
 use Rattle.id.specs.Id.{least}
 use Rattle.id.specs.Bytes.{idBytes}
 use Rattle.id.proofs.Laws.{length-id-bytes}
 use Rattle.groups.specs.Group.{Pending, isAmong}
 use Rattle.groups.specs.Bytes.{placeOf, pendingBytes, allPending}
 use Rattle.groups.specs.Parse.{pendingIn, allPendingIn}
-use Rattle.groups.proofs.Laws.{never, allOf, all-of, length-entry}
+use Rattle.groups.proofs.Laws.{allOf, all-of, length-entry}
 use Rattle.groups_change.specs.Places.{movedPlace, placesMoved}
 
 -- places in a list with one name more

@@ -7,14 +7,13 @@ use lib.ListN.{length, set, length-append}
 use borrow.Author.Tests.{lt-ltb, le-ltb}
 use Rattle.octets.specs.Bytes.{le, zeros}
 use Rattle.octets.specs.Place.{put}
-use Rattle.octets.proofs.Laws.{length-le, length-put, put-append, put-all, set-put}
+use Rattle.octets.proofs.Laws.{length-le, length-put, put-append, put-all, set-put, drop-zeros, put-at}
 use Rattle.id.specs.declared.Id.{Id}
 use Rattle.id.specs.Bytes.{idBytes}
 use Rattle.id.proofs.Laws.{length-id-bytes}
 use Rattle.groups.specs.Bytes.{nameField}
 use Rattle.groups_change.specs.Places.{movedPlace}
 use Rattle.groups_change.specs.Change.{rowOf}
-use Rattle.groups_change.proofs.Lists.{drop-zeros, put-at}
 
 pub field-made : (n : List ℕ) → length n ≤ 16 → put (length n ∷ zeros 16) 1 n ≡ nameField n
 field-made n h =

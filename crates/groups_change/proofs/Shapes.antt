@@ -8,7 +8,7 @@ use lib.ListN.{length, take, drop, set, length-append, length-replicate, replica
 use lib.Seq.{take-at, drop-at, drop-append-le, set-at}
 use Rattle.octets.specs.Bytes.{le, zeros}
 use Rattle.octets.specs.Place.{put, spliced}
-use Rattle.octets.proofs.Laws.{both-true, length-le}
+use Rattle.octets.proofs.Laws.{both-true, length-le, both-of, drop-zeros, put-at}
 use Rattle.id.specs.declared.Id.{Id}
 use Rattle.id.specs.Bytes.{idBytes}
 use Rattle.id.proofs.Laws.{length-id-bytes}
@@ -16,9 +16,9 @@ use Rattle.groups.specs.Group.{Pending, Group, isName, areNames}
 use Rattle.groups.specs.Bytes.{pendingBytes, allPending, padded, nameField, allNameFields, regionBytes}
 use Rattle.groups.specs.Parse.{groupIn}
 use Rattle.groups.specs.Answer.{SoundRegion}
-use Rattle.groups.proofs.Laws.{both-of, length-field, length-fields, length-entry, length-entries, length-padded, sixParts, Rules, rules, named}
+use Rattle.groups.proofs.Laws.{length-field, length-fields, length-entry, length-entries, length-padded, sixParts, Rules, rules, named}
 use Rattle.groups_change.specs.Places.{placesMoved}
-use Rattle.groups_change.proofs.Lists.{drop-zeros, put-at, spliced-at}
+use Rattle.groups_change.proofs.Lists.{spliced-at}
 
 -- a room whose used front is a list and then another
 pub fields-append : (xs ys : List (List ℕ)) → allNameFields (xs ++ ys) ≡ allNameFields xs ++ allNameFields ys
@@ -243,6 +243,21 @@ module _ (nm : List ℕ) (d : Id) (k : ℕ) (short : length nm ≤ 16) where
           ∙ room-append 6912 up-front x r (308 + length ps * 27) (omega (arith, length-up-front, length-entries cs ps)) (omega (arith, length-entries cs ps, length-entry cs q []))
           ∙ sym (front-of (padded 6912 (x ++ r)))
           ∙ ap (λ (l : List ℕ). sixParts (nameField nm) (idBytes d) k fields (le 2 c) (padded 6912 l)) (ap (λ (l : List ℕ). x ++ l) (sym (append-nil r)) ∙ sym (entries-append cs ps (q ∷ [])))
+
+      -- fewer entries, and zeros for those that went
+      pub shape-fewer : (ps qs : List Pending) (z : ℕ) → length qs * 27 + z ≡ length ps * 27 → length ps ≤ 256
+          → put (shape nm d k ns c cs ps) 308 (allPending cs qs ++ zeros z) ≡ shape nm d k ns c cs qs
+      shape-fewer ps qs z h l =
+          let x : List ℕ = allPending cs ps in
+          let y : List ℕ = allPending cs qs in
+          let e : List ℕ = y ++ zeros z in
+          let le-e : length x ≡ length e = omega (arith, length-append y (zeros z), length-replicate {A = ℕ} z 0, length-entries cs ps, length-entries cs qs) in
+          let r : z + (6912 - length x) ≡ 6912 - length y = omega (arith, length-entries cs ps, length-entries cs qs) in
+          ap (λ (l : List ℕ). put l 308 e) (front-of (padded 6912 x))
+          ∙ put-at up-front (padded 6912 x) e 308 length-up-front
+          ∙ ap (λ (l : List ℕ). up-front ++ (e ++ l)) (drop-at x (zeros (6912 - length x)) (length e) le-e)
+          ∙ ap (λ (l : List ℕ). up-front ++ l) (append-assoc y (zeros z) (zeros (6912 - length x)) ∙ ap (λ (l : List ℕ). y ++ l) (replicate-append-replicate {A = ℕ} z (6912 - length x) 0 ∙ ap zeros r))
+          ∙ sym (front-of (padded 6912 y))
 
       -- one of the entries
       module _ (xs : List Pending) (p : Pending) (ys : List Pending) where

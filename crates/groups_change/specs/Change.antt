@@ -17,9 +17,6 @@ use Rattle.groups_change.specs.declared.Claimed.{Claimed}
 use Rattle.groups_change.specs.declared.Claimed.the-variants.{Moved, NotMoved, Refused as ClaimRefused}
 
 -- one part of a group changed
-abbrev pub withDelivered : Id → Group → Group
-withDelivered i g = record { name = g .name; delivered = i; consumers = g .consumers; pending = g .pending }
-
 abbrev pub withPending : List Pending → Group → Group
 withPending ps g = record { name = g .name; delivered = g .delivered; consumers = g .consumers; pending = ps }
 

@@ -5,11 +5,12 @@ ghost use mathlib.Core.Bool.{true};
 ghost use Prim.Native.Nat.{_≤_};
 ghost use lib.ListN.{length};
 ghost use Rattle.id.specs.Id.{below};
+ghost use Rattle.groups.specs.Group.{longestName};
 ghost use Rattle.groups.specs.Bytes.{regionBytes};
 ghost use Rattle.groups.specs.Parse.{groupIn};
 ghost use Rattle.groups.specs.Step as step;
 ghost use Rattle.groups.specs.Answer.{SoundRegion};
-ghost use Rattle.groups_change.specs.Change.{withDelivered, deliverAnswer, deliverLeaves, foundCount, claimAnswer, claimedAs, claimLeaves};
+ghost use Rattle.groups_change.specs.Change.{deliverAnswer, deliverLeaves, foundCount, claimAnswer, claimedAs, claimLeaves};
 use crate::Claimed;
 use crate::Delivery;
 use crate::consumers::lacks_consumer;
@@ -21,27 +22,23 @@ use crate::entries::remove_entry;
 use crate::pieces::entry_row;
 use crate::pieces::grown;
 use crate::pieces::idle_for;
+use groups::ENTRIES_AT;
+use groups::ENTRY_BYTES;
 use groups::Held;
+use groups::MOST_PENDING;
 use groups::Place;
 use id::Id;
 
-pub fn set_delivered(region: &mut [u8], id: Id)
-    requires { ⌜ SoundRegion (now region) ⌝ }
-    ensures { λ _. ⌜ now (region .exit) ≡ regionBytes (withDelivered id (groupIn (now (region .entry)))) ⌝ }
-{
-    id::write_id(region, 17, id);
-}
-
 // The ID, above the last delivered one, becomes last delivered and pending for the consumer.
 pub fn deliver(region: &mut [u8], consumer: &[u8], time: u64, id: Id) -> Delivery
-    requires { ⌜ SoundRegion (now region) × (1 ≤ length (now consumer)) × (length (now consumer) ≤ 16) × (below (groupIn (now region) .delivered) id ≡ true) ⌝ }
+    requires { ⌜ SoundRegion (now region) × (1 ≤ length (now consumer)) × (length (now consumer) ≤ longestName) × (below (groupIn (now region) .delivered) id ≡ true) ⌝ }
     ensures { λ r. ⌜ (r ≡ deliverAnswer (now (consumer .entry)) (groupIn (now (region .entry)))) × (now (region .exit) ≡ deliverLeaves r (now (region .entry)) (regionBytes (step.deliver (now (consumer .entry)) time id (groupIn (now (region .entry)))))) ⌝ }
 {
     if lacks_consumer(region, consumer) {
         return Delivery::Refused(12);
     }
     let n = groups::pending_count(region);
-    if 256 <= n {
+    if MOST_PENDING <= n {
         return Delivery::Refused(13);
     }
     let place = make_consumer(region, consumer);
@@ -63,7 +60,7 @@ pub fn acknowledge(region: &mut [u8], id: Id) -> u64
 
 // An entry that is idle for long enough moves to the consumer.
 pub fn claim(region: &mut [u8], consumer: &[u8], least_idle: u64, id: Id, time: u64) -> Claimed
-    requires { ⌜ SoundRegion (now region) × (1 ≤ length (now consumer)) × (length (now consumer) ≤ 16) ⌝ }
+    requires { ⌜ SoundRegion (now region) × (1 ≤ length (now consumer)) × (length (now consumer) ≤ longestName) ⌝ }
     ensures { λ r. ⌜ (r ≡ claimAnswer (now (consumer .entry)) «least_idle» id time (groupIn (now (region .entry)))) × (now (region .exit) ≡ claimLeaves r (now (region .entry)) (regionBytes (claimedAs (now (consumer .entry)) time (groupIn (now (region .entry))) (step.findPending id (groupIn (now (region .entry)) .pending))))) ⌝ }
 {
     let Held::Entry(at, _, since, count) = groups::find_pending(region, id) else {
@@ -77,7 +74,7 @@ pub fn claim(region: &mut [u8], consumer: &[u8], least_idle: u64, id: Id, time: 
     }
     let place = make_consumer(region, consumer);
     let row = entry_row(id, place, time, grown(count));
-    octets::copy_in(region, 308 + at * 27, &row);
+    octets::copy_in(region, ENTRIES_AT + at * ENTRY_BYTES, &row);
     Claimed::Moved
 }
 

@@ -6,6 +6,7 @@ ghost use mathlib.Core.List.{[]};
 ghost use Prim.Native.Nat.{_≤_, _<_};
 ghost use lib.ListN.{length, getD};
 ghost use Rattle.groups.specs.declared.Spot.{Spot};
+ghost use Rattle.groups.specs.Group.{longestName, mostConsumers};
 ghost use Rattle.groups.specs.Bytes.{placeOf, regionBytes};
 ghost use Rattle.groups.specs.Parse.{groupIn};
 ghost use Rattle.groups.specs.Step.{withName, pendingOf};
@@ -13,6 +14,10 @@ ghost use Rattle.groups.specs.Answer.{SoundRegion, spotFrom, lacksConsumer, wit
 ghost use Rattle.groups_change.specs.Change.{withoutConsumer};
 use crate::pieces::move_places;
 use crate::pieces::name_field;
+use groups::CONSUMERS_AT;
+use groups::FIELD_BYTES;
+use groups::FIELDS_AT;
+use groups::MOST_CONSUMERS;
 use groups::Place;
 use groups::Spot;
 
@@ -23,27 +28,33 @@ pub fn lacks_consumer(region: &[u8], name: &[u8]) -> bool
 {
     match groups::find_consumer(region, name) {
         Place::At(_) => false,
-        Place::Absent => 16 <= groups::consumer_count(region),
+        Place::Absent => MOST_CONSUMERS <= groups::consumer_count(region),
     }
 }
 
 // A new consumer at its place; the places of later ones move up in every entry.
 fn insert_consumer(region: &mut [u8], name: &[u8], k: usize)
-    requires { ⌜ SoundRegion (now region) × (length (now name) ≤ 16) × (spotFrom 0 (now name) (groupIn (now region) .consumers) ≡ Spot.New k) × (length (groupIn (now region) .consumers) < 16) ⌝ }
+    requires { ⌜ SoundRegion (now region) × (length (now name) ≤ longestName) × (spotFrom 0 (now name) (groupIn (now region) .consumers) ≡ Spot.New k) × (length (groupIn (now region) .consumers) < mostConsumers) ⌝ }
     ensures { λ _. ⌜ now (region .exit) ≡ regionBytes (withConsumer (now (name .entry)) (groupIn (now (region .entry)))) ⌝ }
 {
     let n = groups::consumer_count(region);
     let count = groups::pending_count(region);
     move_places(region, count, k, 1, 0);
     let field = name_field(name);
-    octets::splice(region, 34 + n * 17, 34 + k * 17, 0, &field);
-    region[33] = (n + 1) as u8;
+    octets::splice(
+        region,
+        FIELDS_AT + n * FIELD_BYTES,
+        FIELDS_AT + k * FIELD_BYTES,
+        0,
+        &field,
+    );
+    region[CONSUMERS_AT] = (n + 1) as u8;
 }
 
 // The consumer's place, made if new.
 pub fn make_consumer(region: &mut [u8], name: &[u8]) -> usize
-    requires { ⌜ SoundRegion (now region) × (1 ≤ length (now name)) × (length (now name) ≤ 16) × (lacksConsumer (now name) (groupIn (now region)) ≡ false) ⌝ }
-    ensures { λ r. ⌜ (r ≡ placeOf (now (name .entry)) (withName (now (name .entry)) (groupIn (now (region .entry)) .consumers))) × (r < 16) × (now (region .exit) ≡ regionBytes (withConsumer (now (name .entry)) (groupIn (now (region .entry))))) ⌝ }
+    requires { ⌜ SoundRegion (now region) × (1 ≤ length (now name)) × (length (now name) ≤ longestName) × (lacksConsumer (now name) (groupIn (now region)) ≡ false) ⌝ }
+    ensures { λ r. ⌜ (r ≡ placeOf (now (name .entry)) (withName (now (name .entry)) (groupIn (now (region .entry)) .consumers))) × (r < mostConsumers) × (now (region .exit) ≡ regionBytes (withConsumer (now (name .entry)) (groupIn (now (region .entry))))) ⌝ }
 {
     match groups::spot_of(region, name) {
         Spot::Known(k) => k,
@@ -62,6 +73,12 @@ pub fn remove_consumer(region: &mut [u8], k: usize)
     let n = groups::consumer_count(region);
     let count = groups::pending_count(region);
     move_places(region, count, k + 1, 0, 1);
-    octets::splice(region, 34 + n * 17, 34 + k * 17, 17, b"");
-    region[33] = (n - 1) as u8;
+    octets::splice(
+        region,
+        FIELDS_AT + n * FIELD_BYTES,
+        FIELDS_AT + k * FIELD_BYTES,
+        FIELD_BYTES,
+        b"",
+    );
+    region[CONSUMERS_AT] = (n - 1) as u8;
 }

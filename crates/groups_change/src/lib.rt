@@ -1,4 +1,4 @@
-// Changes of a consumer group in its region: set the last delivered ID, deliver, acknowledge, claim, drop a consumer.
+// Changes of a consumer group in its region: deliver, acknowledge, claim, drop a consumer.
 // What each answers and leaves is said in specs/Change, the operations on a group in the crate groups, specs/Step.
 
 mod commands;
@@ -10,7 +10,6 @@ pub use commands::acknowledge;
 pub use commands::claim;
 pub use commands::deliver;
 pub use commands::drop_consumer;
-pub use commands::set_delivered;
 
 pub enum Delivery {
     Done,

@@ -4,14 +4,23 @@ ghost use mathlib.Core.Path.{_≡_};
 ghost use mathlib.Core.List.{_++_};
 ghost use Prim.Native.Nat.{_+_, _-_, _*_, _≤_, _<_, min};
 ghost use lib.ListN.{length, take, drop};
-ghost use Rattle.groups.specs.Bytes.{nameField};
+ghost use Rattle.groups.specs.Group.{longestName, mostCount};
+ghost use Rattle.groups.specs.Bytes.{nameField, entriesAt, entryBytes};
 ghost use Rattle.groups.specs.Step.{idle};
 ghost use Rattle.groups_change.specs.Places.{movedPlace, placesMoved};
 ghost use Rattle.groups_change.specs.Change.{rowOf};
+use groups::COUNT_AT;
+use groups::ENTRIES_AT;
+use groups::ENTRY_BYTES;
+use groups::PLACE_AT;
+use groups::TIME_AT;
 use id::Id;
 
+// The greatest delivery count, mostCount of specs/Group of the crate groups.
+const MOST_COUNT: u64 = 65535;
+
 pub fn name_field(name: &[u8]) -> [u8; 17]
-    requires { ⌜ length (now name) ≤ 16 ⌝ }
+    requires { ⌜ length (now name) ≤ longestName ⌝ }
     ensures { λ r. ⌜ r ≡ nameField (now (name .entry)) ⌝ }
 {
     let mut b = [0u8; 17];
@@ -26,9 +35,9 @@ pub fn entry_row(id: Id, place: usize, time: u64, count: u64) -> [u8; 27]
 {
     let mut b = [0u8; 27];
     id::write_id(&mut b, 0, id);
-    b[16] = place as u8;
-    octets::write_le(&mut b, 17, 8, time);
-    octets::write_le(&mut b, 25, 2, count);
+    b[PLACE_AT] = place as u8;
+    octets::write_le(&mut b, TIME_AT, 8, time);
+    octets::write_le(&mut b, COUNT_AT, 2, count);
     b
 }
 
@@ -45,14 +54,14 @@ fn moved_place(x: u8, from: usize, add: usize, sub: usize) -> u8
 
 // The places of so many entries, when a consumer is put in or taken out.
 pub fn move_places(region: &mut [u8], count: usize, from: usize, add: usize, sub: usize)
-    requires { ⌜ (308 + count * 27 ≤ length (now region)) × (add ≤ 1) × (sub ≤ from) ⌝ }
-    ensures { λ _. ⌜ now (region .exit) ≡ take 308 (now (region .entry)) ++ placesMoved from add sub count (drop 308 (now (region .entry))) ⌝ }
+    requires { ⌜ (entriesAt + count * entryBytes ≤ length (now region)) × (add ≤ 1) × (sub ≤ from) ⌝ }
+    ensures { λ _. ⌜ now (region .exit) ≡ take entriesAt (now (region .entry)) ++ placesMoved from add sub count (drop entriesAt (now (region .entry))) ⌝ }
 {
-    let mut at = 308;
+    let mut at = ENTRIES_AT;
     let mut left = count;
     while 0 < left {
-        region[at + 16] = moved_place(region[at + 16], from, add, sub);
-        at += 27;
+        region[at + PLACE_AT] = moved_place(region[at + PLACE_AT], from, add, sub);
+        at += ENTRY_BYTES;
         left -= 1;
     }
 }
@@ -68,10 +77,10 @@ pub fn idle_for(time: u64, since: u64) -> u64
 }
 
 pub fn grown(count: u64) -> u64
-    ensures { λ r. ⌜ r ≡ min (count + 1) 65535 ⌝ }
+    ensures { λ r. ⌜ r ≡ min (count + 1) mostCount ⌝ }
 {
-    if 65535 <= count {
-        return 65535;
+    if MOST_COUNT <= count {
+        return MOST_COUNT;
     }
     count + 1
 }

@@ -61,13 +61,6 @@ pub fn drop_consumer(region: &mut [u8], name: &[u8])
     show::count(b"dropped", groups_change::drop_consumer(region, name));
 }
 
-pub fn set_delivered(region: &mut [u8], id: Id)
-    requires { ⌜ SoundRegion (now region) ⌝ }
-{
-    groups_change::set_delivered(region, id);
-    show::text(b"set\n");
-}
-
 fn next_pending(region: &[u8], name: &[u8], id: Id)
     requires { ⌜ SoundRegion (now region) ⌝ }
 {
@@ -141,8 +134,8 @@ pub fn ask(region: &[u8], kind: u8, name: &[u8], id: Id)
     requires { ⌜ SoundRegion (now region) ⌝ }
 {
     match kind {
-        7 => next_pending(region, name, id),
-        8 => find(region, name, id),
+        6 => next_pending(region, name, id),
+        7 => find(region, name, id),
         _ => body(region),
     }
 }

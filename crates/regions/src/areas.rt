@@ -80,8 +80,8 @@ fn change(area: &mut [u8], kind: u8, name: &[u8], id: Id)
     requires { ⌜ SoundArea (now area) × (1 ≤ length (now name)) × (length (now name) ≤ 16) ⌝ }
 {
     match kind {
-        12 => create(area, name, id),
-        13 => destroy(area, name),
+        11 => create(area, name, id),
+        12 => destroy(area, name),
         _ => find(area, name),
     }
 }

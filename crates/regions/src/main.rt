@@ -3,9 +3,9 @@
 //
 //     operation   | kind 1 | length 1, name 16 | ID 16 | time 8 | number 8 |      50 bytes, the ID big-endian, the rest little-endian
 //
-// Kind 0 reads a body, which follows, of so many bytes as the number says. Kinds 1 and 10 judge the region and the area with the byte at
-// the place that the time says changed to the number, by the ID as last ID. Kind 11 puts the region into the area. The other kinds are
-// operations on a sound region, and from 12 on on a sound area.
+// Kind 0 reads a body, which follows, of so many bytes as the number says. Kinds 1 and 9 judge the region and the area with the byte at
+// the place that the time says changed to the number, by the ID as last ID. Kind 10 puts the region into the area. The other kinds are
+// operations on a sound region, and from 11 on on a sound area.
 
 use groups::Judged;
 use id::Id;
@@ -74,7 +74,6 @@ fn change(region: &mut [u8], kind: u8, name: &[u8], id: Id, time: u64, number: u
         3 => answers::acknowledge(region, id),
         4 => answers::claim(region, name, number, id, time),
         5 => answers::drop_consumer(region, name),
-        6 => answers::set_delivered(region, id),
         _ => answers::ask(region, kind, name, id),
     }
 }
@@ -118,8 +117,8 @@ fn run_area(area: &mut [u8], region: &[u8], operation: &[u8])
     let time = octets::read_le(operation, 34, 8);
     let number = octets::read_le(operation, 42, 8);
     match operation[0] {
-        10 => areas::damage(area, time, number, id),
-        11 => areas::place(area, region, number),
+        9 => areas::damage(area, time, number, id),
+        10 => areas::place(area, region, number),
         _ => areas::operate(area, operation, id),
     }
 }
@@ -132,7 +131,7 @@ fn next_operation(region: &mut [u8], area: &mut [u8]) -> bool
     if io::read_full(STDIN_FILENO, &mut operation) < OPERATION_BYTES {
         return false;
     }
-    if operation[0] < 10 {
+    if operation[0] < 9 {
         run_region(region, &operation);
         show::sum(b"region", region);
     } else {

@@ -97,21 +97,12 @@ impl Maker {
                 let (least_idle, id, time) = (self.least_idle(), self.id(), self.time());
                 Operation::Claim { consumer, least_idle, id, time }
             }
-            75..=77 => Operation::DropConsumer { consumer },
-            78 => self.set_delivered(),
+            75..=78 => Operation::DropConsumer { consumer },
             79..=88 => Operation::NextPending { consumer, after: self.id() },
             89..=92 => Operation::Find { consumer, id: self.id() },
             93 if self.rng.one_in(2) => Operation::Body,
             _ => self.damage(),
         }
-    }
-
-    /// Mostly one that keeps the rule on pending IDs, which are at most the last delivered.
-    fn set_delivered(&mut self) -> Operation {
-        let highest = self.group().and_then(|group| group.pending.keys().last().copied());
-        let least = highest.unwrap_or(Id::LEAST);
-        let id = if self.rng.one_in(10) { self.id() } else { least.following().unwrap_or(least) };
-        Operation::SetDelivered { id }
     }
 
     /// A byte in the used parts, or right after them, mostly changed a little.

@@ -40,9 +40,6 @@ pub enum Operation {
     DropConsumer {
         consumer: Name,
     },
-    SetDelivered {
-        id: Id,
-    },
     NextPending {
         consumer: Name,
         after: Id,
@@ -89,17 +86,16 @@ impl Operation {
                 fields(4, consumer, *id, *time, *least_idle)
             }
             Operation::DropConsumer { consumer } => fields(5, consumer, Id::LEAST, 0, 0),
-            Operation::SetDelivered { id } => fields(6, any, *id, 0, 0),
-            Operation::NextPending { consumer, after } => fields(7, consumer, *after, 0, 0),
-            Operation::Find { consumer, id } => fields(8, consumer, *id, 0, 0),
-            Operation::Body => fields(9, any, Id::LEAST, 0, 0),
+            Operation::NextPending { consumer, after } => fields(6, consumer, *after, 0, 0),
+            Operation::Find { consumer, id } => fields(7, consumer, *id, 0, 0),
+            Operation::Body => fields(8, any, Id::LEAST, 0, 0),
             Operation::DamageArea { place, byte, last } => {
-                fields(10, any, *last, *place as u64, u64::from(*byte))
+                fields(9, any, *last, *place as u64, u64::from(*byte))
             }
-            Operation::Place { place } => fields(11, any, Id::LEAST, 0, *place as u64),
-            Operation::Create { group, start } => fields(12, group, *start, 0, 0),
-            Operation::Destroy { group } => fields(13, group, Id::LEAST, 0, 0),
-            Operation::FindGroup { group } => fields(14, group, Id::LEAST, 0, 0),
+            Operation::Place { place } => fields(10, any, Id::LEAST, 0, *place as u64),
+            Operation::Create { group, start } => fields(11, group, *start, 0, 0),
+            Operation::Destroy { group } => fields(12, group, Id::LEAST, 0, 0),
+            Operation::FindGroup { group } => fields(13, group, Id::LEAST, 0, 0),
         }
     }
 }
@@ -218,10 +214,6 @@ impl State {
             }
             Operation::DropConsumer { consumer } => {
                 vec![format!("dropped {}", group.drop_consumer(consumer))]
-            }
-            Operation::SetDelivered { id } => {
-                group.last_delivered = *id;
-                vec!["set".to_string()]
             }
             Operation::NextPending { consumer, after } => match group.next_pending(consumer, *after) {
                 Some((id, entry)) => vec![

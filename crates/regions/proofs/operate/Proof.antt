@@ -4,9 +4,9 @@ use Prim.Native.Nat.{ℕ, _+_, _-_}
 use native.Mathlib.Omega.{arith}
 use lib.ListN.{length, take, drop}
 use Rattle.octets.specs.Bytes.{Bytes}
-use Rattle.octets.proofs.Laws.{length-area}
+use Rattle.octets.proofs.Laws.{length-area, part-is}
 use Rattle.groups.specs.Answer.{SoundRegion}
-use Rattle.groups.proofs.Laws.{part-is, judged-sound}
+use Rattle.groups.proofs.Laws.{judged-sound}
 use borrow.Author.Needs.{needs}
 use Rattle.regions.proofs.operate.Statement.{statement}
 use Rattle.regions.proofs.operate.Tie as tie

@@ -1,16 +1,15 @@
 -- `create_at` meets its contract, by the laws of its answers. Assumes nothing.
-use mathlib.Core.Path.{_≡_, refl, sym, ap, ap₂, _∙_}
+use mathlib.Core.Path.{_≡_, refl, sym, ap, _∙_}
 use mathlib.Core.List.{List}
 use Prim.Native.Nat.{ℕ, _+_, _-_, _*_, _≤_, _<_}
 use borrow.Rule.Slice.PartMut.{putMid, same-len-mid}
 use borrow.Author.Needs.{needs}
 use native.Mathlib.Omega.{arith}
 use lib.ListN.{length, take, drop}
-use Rattle.octets.specs.Place.{area, put}
-use Rattle.octets.proofs.Laws.{part-put, length-area}
+use Rattle.octets.specs.Place.{put}
+use Rattle.octets.proofs.Laws.{part-put, length-area, part-is}
 use Rattle.groups.specs.Bytes.{regionBytes}
 use Rattle.groups.specs.Step.{newGroup}
-use Rattle.groups.proofs.Laws.{part-is}
 use Rattle.group_area.specs.Answer.{groupsIn}
 use Rattle.group_area.proofs.Found.{sound-size}
 use Rattle.group_area.proofs.Answers.{full, room, create-full, create-done, new-within, created}

@@ -3,11 +3,10 @@ use mathlib.Core.Path.{sym, _∙_}
 use mathlib.Core.List.{[]}
 use borrow.Author.Needs.{needs}
 use Rattle.groups.specs.Area.{namesOf}
-use Rattle.groups.proofs.Spots.{place-known, place-new}
 use Rattle.group_area.specs.Answer.{groupsIn}
-use Rattle.group_area.proofs.Groups.{Sound}
 use Rattle.group_area.proofs.Answers.{rules-of}
 use Rattle.group_area.proofs.finding.find.Statement.{statement}
+use Rattle.groups.proofs.Laws.{place-known, place-new}
 use Rattle.group_area.proofs.finding.find.Tie as tie
 
 pub find-spec : {M : Type 1} → statement M

@@ -5,13 +5,13 @@ use Prim.Native.Nat.{_+_, _-_, _*_, _≤_}
 use native.Mathlib.Omega.{arith}
 use lib.ListN.{length, drop, getD}
 use Rattle.octets.specs.Compare.{orderOf}
-use Rattle.groups.specs.Parse.{nameIn}
 use Rattle.groups.specs.Answer.{spotFrom}
 use Rattle.groups.specs.Area.{namesOf}
-use Rattle.groups.proofs.Turns.{part-is, name-at}
-use Rattle.group_area.specs.Answer.{groupsIn, SoundArea}
+use Rattle.group_area.specs.Answer.{groupsIn}
 use Rattle.group_area.proofs.Found.{UsedRegion, used-region, free-region, spot-end, spot-less, spot-equal, spot-greater, sound-size, few-names}
 use Rattle.group_area.proofs.finding.spot_of.Statement.{statement}
+use Rattle.octets.proofs.Laws.{part-is}
+use Rattle.groups.proofs.Laws.{name-at}
 use Rattle.group_area.proofs.finding.spot_of.Tie as tie
 
 abbrev Inv-loop : tie.InvT-loop

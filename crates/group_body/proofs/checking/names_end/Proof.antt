@@ -7,7 +7,7 @@ use lib.ListN.{length, getD}
 use Rattle.octets.specs.Place.{area}
 use Rattle.octets.proofs.Laws.{area-none}
 use Rattle.group_body.specs.Answer.{namesEnd}
-use Rattle.group_body.proofs.Tested.{Ends, ends, names-bad, names-next, names-done}
+use Rattle.group_body.proofs.Tested.{ends, names-bad, names-next, names-done}
 use Rattle.group_body.proofs.checking.names_end.Statement.{statement}
 use Rattle.group_body.proofs.checking.names_end.Tie as tie
 

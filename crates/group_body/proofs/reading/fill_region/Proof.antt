@@ -9,11 +9,10 @@ use lib.ListN.{length, take, drop, length-drop}
 use lib.Seq.{take-all}
 use Rattle.octets.specs.Bytes.{le}
 use Rattle.octets.specs.Place.{area, put}
-use Rattle.octets.proofs.Laws.{part-area, length-area}
+use Rattle.octets.proofs.Laws.{part-area, length-area, part-is}
 use Rattle.id.specs.Bytes.{idBytes}
 use Rattle.groups.specs.Group.{Group}
 use Rattle.groups.specs.Bytes.{padded, nameField, allNames, allNameFields, allPending}
-use Rattle.groups.proofs.Turns.{part-is}
 use Rattle.group_body.specs.Answer.{readInto, namesAt, areNamesAt}
 use Rattle.group_body.proofs.Inward.{BodyAt, BodyHeld, body-held, region-filled}
 use Rattle.group_body.proofs.reading.fill_region.Statement.{statement}

@@ -7,13 +7,12 @@ use native.Mathlib.Omega.{arith}
 use lib.ListN.{length, take, drop, getD}
 use Rattle.octets.specs.Bytes.{zeros}
 use Rattle.octets.specs.Place.{area, put}
-use Rattle.octets.proofs.Laws.{put-none, put-append}
+use Rattle.octets.proofs.Laws.{put-none, put-append, part-is}
 use Rattle.groups.specs.Bytes.{padded, allNames, allNameFields}
-use Rattle.groups.proofs.Parts.{length-padded}
-use Rattle.groups.proofs.Turns.{part-is}
 use Rattle.group_body.specs.Answer.{namesAt, areNamesAt}
 use Rattle.group_body.proofs.Inward.{NameTurn, name-turn, no-names, no-fields, fields-size, fields-padded}
 use Rattle.group_body.proofs.reading.read_names.Statement.{statement}
+use Rattle.groups.proofs.Laws.{length-padded}
 use Rattle.group_body.proofs.reading.read_names.Tie as tie
 
 abbrev Inv-loop : tie.InvT-loop

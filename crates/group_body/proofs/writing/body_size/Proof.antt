@@ -2,7 +2,7 @@
 use borrow.Author.Needs.{needs}
 use native.Mathlib.Omega.{arith}
 use Rattle.groups.specs.Parse.{groupIn}
-use Rattle.group_body.proofs.Outward.{BodyIn, body-of, length-body}
+use Rattle.group_body.proofs.Outward.{body-of, length-body}
 use Rattle.group_body.proofs.writing.body_size.Statement.{statement}
 use Rattle.group_body.proofs.writing.body_size.Tie as tie
 

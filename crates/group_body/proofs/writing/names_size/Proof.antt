@@ -10,9 +10,9 @@ use Rattle.octets.proofs.Laws.{length-area}
 use Rattle.groups.specs.Group.{areNames}
 use Rattle.groups.specs.Bytes.{allNames}
 use Rattle.groups.specs.Parse.{namesIn, groupIn}
-use Rattle.groups.proofs.Searched.{names-from}
-use Rattle.group_body.proofs.Outward.{BodyIn, body-of, FieldTurn, field-turn, names-none}
+use Rattle.group_body.proofs.Outward.{body-of, FieldTurn, field-turn, names-none}
 use Rattle.group_body.proofs.writing.names_size.Statement.{statement}
+use Rattle.groups.proofs.Laws.{names-from}
 use Rattle.group_body.proofs.writing.names_size.Tie as tie
 
 abbrev Inv-loop : tie.InvT-loop

@@ -6,11 +6,10 @@ use borrow.Author.Needs.{needs}
 use native.Mathlib.Omega.{arith}
 use lib.ListN.{length, take, drop}
 use Rattle.octets.specs.Place.{area, put}
-use Rattle.octets.proofs.Laws.{part-area, length-area}
+use Rattle.octets.proofs.Laws.{part-area, length-area, part-is}
 use Rattle.groups.specs.Bytes.{allNames, bodyBytes}
 use Rattle.groups.specs.Parse.{groupIn}
-use Rattle.groups.proofs.Turns.{part-is}
-use Rattle.group_body.proofs.Outward.{BodyIn, body-of, length-body, written}
+use Rattle.group_body.proofs.Outward.{body-of, length-body, written}
 use Rattle.group_body.proofs.writing.write_body.Statement.{statement}
 use Rattle.group_body.proofs.writing.write_body.Tie as tie
 

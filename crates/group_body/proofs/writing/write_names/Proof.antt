@@ -6,14 +6,13 @@ use Prim.Native.Nat.{ℕ, _+_, _-_, _*_, _≤_}
 use native.Mathlib.Omega.{arith}
 use lib.ListN.{length, take, drop, getD, length-append}
 use Rattle.octets.specs.Place.{area, put}
-use Rattle.octets.proofs.Laws.{length-area, put-none, put-append}
+use Rattle.octets.proofs.Laws.{length-area, put-none, put-append, part-is}
 use Rattle.groups.specs.Group.{areNames}
 use Rattle.groups.specs.Bytes.{allNames}
 use Rattle.groups.specs.Parse.{namesIn, groupIn}
-use Rattle.groups.proofs.Turns.{part-is}
-use Rattle.groups.proofs.Searched.{names-from}
-use Rattle.group_body.proofs.Outward.{BodyIn, body-of, FieldTurn, field-turn, names-none}
+use Rattle.group_body.proofs.Outward.{body-of, FieldTurn, field-turn, names-none}
 use Rattle.group_body.proofs.writing.write_names.Statement.{statement}
+use Rattle.groups.proofs.Laws.{names-from}
 use Rattle.group_body.proofs.writing.write_names.Tie as tie
 
 abbrev Inv-loop : tie.InvT-loop

@@ -18,18 +18,21 @@ entries-pass-spec =
     (tie.spec
     (λ c κs. search needs)
     (λ c.
-    let s = c .before .before .before .args .s .now in
+    let x = c .before .before .before .args in
     let n = c .before .read-le in
-    sym (entries-many s (n .result) (n .ensures .0) (omega arith)))
+    sym (entries-many (x .last) (x .s .now) (n .result) (n .ensures .0) (omega arith)))
     (λ c. search needs)
     (λ c κs. search needs)
     (λ c κs. search needs)
     (λ c κs. search needs)
+    (λ c κs. search needs)
     (λ c.
-    let s = c .before .before .before .before .before .before .before .before .args .s .now in
-    let n = c .before .before .before .before .before .before .read-le in
-    let w = c .before .before .before .wide in
-    sym (entries-refused s (n .result) (n .ensures .0) (w .result) (w .ensures .0) (c .before .before .read-id .result) (delivered (c .before .before))
+    let r = c .before .before .before in
+    let x = r .before .before .before .before .before .before .args in
+    let n = r .before .before .before .before .read-le in
+    let w = r .before .wide in
+    let m = c .before .before .lesser in
+    sym (entries-refused (x .last) (x .s .now) (n .result) (n .ensures .0) (w .result) (w .ensures .0) (r .read-id .result) (delivered r) (m .result) (m .ensures)
     (omega arith) (sym (c .before .entries-rise .ensures) ∙ not-true _ (c .if2 .taken))))
     (λ c. search needs)
     (λ c. search needs)
@@ -38,9 +41,12 @@ entries-pass-spec =
     (λ c. search needs)
     (λ c κs. search needs)
     (λ c.
-    let s = c .before .before .before .before .before .before .before .before .before .before .args .s .now in
-    let n = c .before .before .before .before .before .before .before .before .read-le in
-    let w = c .before .before .before .before .before .wide in
+    let e = c .before .before in
+    let r = e .before .before .before in
+    let x = r .before .before .before .before .before .before .args in
+    let n = r .before .before .before .before .read-le in
+    let w = r .before .wide in
+    let m = e .before .before .lesser in
     c .all-zero-from .ensures
-    ∙ sym (entries-rest s (n .result) (n .ensures .0) (w .result) (w .ensures .0) (c .before .before .before .before .read-id .result) (delivered (c .before .before .before .before))
-    (omega arith) (sym (c .before .before .before .entries-rise .ensures) ∙ not-false _ (c .before .before .if2 .left)))))
+    ∙ sym (entries-rest (x .last) (x .s .now) (n .result) (n .ensures .0) (w .result) (w .ensures .0) (r .read-id .result) (delivered r) (m .result) (m .ensures)
+    (omega arith) (sym (e .before .entries-rise .ensures) ∙ not-false _ (e .if2 .left)))))

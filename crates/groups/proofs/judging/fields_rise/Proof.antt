@@ -7,12 +7,12 @@ use borrow.Author.Tests.{not-true, not-false}
 use native.Mathlib.Omega.{arith}
 use lib.ListN.{length, drop, length-drop}
 use Rattle.octets.specs.Place.{area}
-use Rattle.octets.proofs.Laws.{area-none}
-use Rattle.groups.specs.Group.{nameBefore}
+use Rattle.octets.proofs.Laws.{area-none, part-is}
 use Rattle.groups.specs.Parse.{nameIn, isField, areFields}
 use Rattle.groups.proofs.Fields.{field-read}
-use Rattle.groups.proofs.Turns.{part-is, first-byte, name-at, fields-bad, fields-low, fields-next, fields-done}
+use Rattle.groups.proofs.Turns.{first-byte, name-at, fields-bad, fields-low, fields-next, fields-done}
 use Rattle.groups.proofs.judging.fields_rise.Statement.{statement}
+use Rattle.octets.specs.Compare.{comesBefore}
 use Rattle.groups.proofs.judging.fields_rise.Tie as tie
 
 abbrev Inv-loop : tie.InvT-loop
@@ -34,16 +34,16 @@ within c =
     omega (arith, c .wide .ensures .0, first-byte (l .i) s, field-read (drop (l .i) s) (passed (c .before .before)) h .few-bytes)
 
 -- the name before, and this one
-compared : (c : tie.After-is-before Inv-loop μ-loop)
+compared : (c : tie.After-comes-before Inv-loop μ-loop)
     → let l = c .before .before .before .before .before .before .before .before .loop in
     let s = c .before .before .before .before .before .before .before .before .before .before .args .s .now in
-    c .is-before .result ≡ nameBefore (area (l .from) (l .size) s) (nameIn (drop (l .i) s))
+    c .comes-before .result ≡ comesBefore (area (l .from) (l .size) s) (nameIn (drop (l .i) s))
 compared c =
     let l = c .before .before .before .before .before .before .before .before .loop in
     let s = c .before .before .before .before .before .before .before .before .before .before .args .s .now in
     let w = c .before .before .before .wide in
-    c .is-before .ensures
-    ∙ ap₂ nameBefore (part-is (l .from) (l .size) s) (part-is (l .i + 1) (w .result) s ∙ sym (name-at (l .i) (w .result) s (w .ensures .0)))
+    c .comes-before .ensures
+    ∙ ap₂ comesBefore (part-is (l .from) (l .size) s) (part-is (l .i + 1) (w .result) s ∙ sym (name-at (l .i) (w .result) s (w .ensures .0)))
 
 pub fields-rise-spec : {M : Type 1} → statement M
 fields-rise-spec =
@@ -89,7 +89,7 @@ fields-rise-spec =
       omega (arith, within (c .before .before .before .before)),
       sym (fields-next (area (l .from) (l .size) (x .s .now)) (l .left) (l .i) (x .s .now) (omega arith) (area (l .i + 1) (w .result) (x .s .now)) n
           (passed (c .before .before .before .before .before .before))
-          (ap (nameBefore (area (l .from) (l .size) (x .s .now))) (sym n) ∙ sym (compared (c .before)) ∙ not-false _ (c .if2 .left)))
+          (ap (comesBefore (area (l .from) (l .size) (x .s .now))) (sym n) ∙ sym (compared (c .before)) ∙ not-false _ (c .if2 .left)))
           ∙ l .inv .2,
     ))
     (λ c.

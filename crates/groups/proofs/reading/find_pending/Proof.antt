@@ -5,9 +5,8 @@ use Prim.Native.Nat.{_+_, _*_, _≤_}
 use native.Mathlib.Omega.{arith}
 use lib.ListN.{length, drop}
 use Rattle.octets.specs.Place.{area}
-use Rattle.octets.specs.Compare.{isEqual}
 use Rattle.id.specs.declared.Id.{Id}
-use Rattle.id.specs.Id.{idOrder}
+use Rattle.id.specs.Id.{sameId}
 use Rattle.id.specs.Bytes.{idFrom}
 use Rattle.groups.specs.declared.Held.the-variants.{Entry}
 use Rattle.groups.specs.Group.{arePending}
@@ -31,10 +30,10 @@ abbrev μ-loop : tie.MeasureT-loop
 -- the test of an entry
 tested : (c : tie.After-is-same Inv-loop μ-loop)
     → let x = c .before .before .before .before .before .before .args in
-    c .is-same .result ≡ isEqual (idOrder (idFrom (area (c .before .before .before .loop .at) 16 (x .region .now))) (x .id))
+    c .is-same .result ≡ sameId (idFrom (area (c .before .before .before .loop .at) 16 (x .region .now))) (x .id)
 tested c =
     let x = c .before .before .before .before .before .before .args in
-    c .is-same .ensures ∙ ap (λ (i : Id). isEqual (idOrder i (x .id))) (c .before .read-id .ensures)
+    c .is-same .ensures ∙ ap (λ (i : Id). sameId i (x .id)) (c .before .read-id .ensures)
 
 size : (c : tie.In-loop Inv-loop μ-loop) → length (c .before .before .before .before .args .region .now) ≡ 7220
 size c = let x = c .before .before .before .before in sound-tested (x .args .region .now) (x .pre) .size

@@ -6,9 +6,10 @@ use borrow.Author.Needs.{needs}
 use native.Mathlib.Omega.{arith}
 use Rattle.octets.specs.Compare.{same}
 use Rattle.groups.specs.Parse.{groupIn}
-use Rattle.groups.proofs.Turns.{part-is, name-at}
+use Rattle.groups.proofs.Turns.{name-at}
 use Rattle.groups.proofs.Verdicts.{sound-tested}
 use Rattle.groups.proofs.reading.has_name.Statement.{statement}
+use Rattle.octets.proofs.Laws.{part-is}
 use Rattle.groups.proofs.reading.has_name.Tie as tie
 
 pub has-name-spec : {M : Type 1} → statement M

@@ -6,10 +6,11 @@ use lib.ListN.{length, drop}
 use Rattle.octets.specs.Compare.{orderOf}
 use Rattle.groups.specs.Parse.{nameIn, namesIn, groupIn}
 use Rattle.groups.specs.Answer.{spotFrom}
-use Rattle.groups.proofs.Turns.{part-is, name-at}
+use Rattle.groups.proofs.Turns.{name-at}
 use Rattle.groups.proofs.Verdicts.{sound-tested}
 use Rattle.groups.proofs.Searched.{names-from, spot-new, spot-known, spot-next, spot-done}
 use Rattle.groups.proofs.reading.spot_of.Statement.{statement}
+use Rattle.octets.proofs.Laws.{part-is}
 use Rattle.groups.proofs.reading.spot_of.Tie as tie
 
 abbrev Inv-loop : tie.InvT-loop

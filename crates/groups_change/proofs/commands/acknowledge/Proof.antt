@@ -5,9 +5,9 @@ use borrow.Author.Needs.{needs}
 use native.Mathlib.Omega.{arith}
 use Rattle.groups.specs.Bytes.{regionBytes}
 use Rattle.groups.specs.Parse.{groupIn}
-use Rattle.groups.proofs.Laws.{stands}
+use Rattle.groups.proofs.Laws.{stands, acknowledge-missing}
 use Rattle.groups_change.specs.Change.{withPending, withoutAt, foundCount}
-use Rattle.groups_change.proofs.Changes.{HeldEntry, held-entry, held-missing, acknowledge-found, acknowledge-missing}
+use Rattle.groups_change.proofs.Changes.{HeldEntry, held-entry, held-missing, acknowledge-found}
 use Rattle.groups_change.proofs.commands.acknowledge.Statement.{statement}
 use Rattle.groups_change.proofs.commands.acknowledge.Tie as tie
 
@@ -29,7 +29,7 @@ acknowledge-spec =
     let x = c .before .before .before .before .before in
     let g = groupIn (x .args .region .now) in
     let f = held-missing (x .args .id) g (sym (c .before .before .find-pending .ensures) ∙ c .enum-told .given .1) in
-    (sym (ap foundCount f), x .pre .laid ∙ ap regionBytes (acknowledge-missing (x .args .id) g f)))
+    (sym (ap foundCount f), x .pre .laid ∙ ap regionBytes (sym (acknowledge-missing (x .args .id) g f))))
     (λ c κs.
     let x = c .before .before .before .before .before .before .before in
     let f = found (c .before .before) in

@@ -10,9 +10,9 @@ use Rattle.groups.specs.Bytes.{regionBytes}
 use Rattle.groups.specs.Parse.{groupIn}
 use Rattle.groups.specs.Step.{pendingOf, pendingOfOthers}
 use Rattle.groups.specs.Answer.{SoundRegion}
-use Rattle.groups.proofs.Laws.{FoundName, found-name, absent-name, rules, is-group, sound-region, group-in, others-within}
+use Rattle.groups.proofs.Laws.{FoundName, found-name, absent-name, rules, is-group, sound-region, group-in, others-within, drop-unknown, count-unknown}
 use Rattle.groups_change.specs.Change.{withPending, withoutConsumer}
-use Rattle.groups_change.proofs.Dropped.{within-rules, none-of-others, drop-is, drop-unknown, count-unknown}
+use Rattle.groups_change.proofs.Dropped.{within-rules, none-of-others, drop-is}
 use Rattle.groups_change.proofs.commands.drop_consumer.Statement.{statement}
 use Rattle.groups_change.proofs.commands.drop_consumer.Tie as tie
 
@@ -57,7 +57,7 @@ drop-consumer-spec =
     let g = groupIn (x .args .region .now) in
     let n = x .args .consumer .now in
     let u = absent-name n (g .consumers) (sym (c .before .before .find-consumer .ensures) ∙ c .enum-told .given .1) in
-    (count-unknown n g (rules g (x .pre .rules-kept)) u, x .pre .laid ∙ ap regionBytes (drop-unknown n g (rules g (x .pre .rules-kept)) u)))
+    (sym (count-unknown n g (x .pre .rules-kept) u), x .pre .laid ∙ ap regionBytes (sym (drop-unknown n g (x .pre .rules-kept) u))))
     (λ c κs. (c .before .before .before .before .before .before .before .before .pre, found (c .before .before) .within))
     (λ c κs.
     let x = c .before .before .before .before .before .before .before .before .before .before .before .before in

@@ -1,53 +1,51 @@
--- `remove_entries` meets its contract: each turn takes the next entry out or passes it. Assumes nothing.
-use Prim.Native.Nat.{_+_, _*_, _≤_}
+-- `remove_entries` meets its contract: the rows of the others, zeros for those that went, the number. Assumes nothing.
+use mathlib.Core.Path.{_≡_, sym, ap, _∙_}
+use mathlib.Core.List.{List}
+use Prim.Native.Nat.{ℕ, _+_, _-_, _*_, _≤_}
+use borrow.Author.Needs.{needs}
 use native.Mathlib.Omega.{arith}
-use lib.Dec.{eqb}
-use lib.ListN.{length, getD}
-use Rattle.groups.specs.Parse.{groupIn}
-use Rattle.groups.proofs.Laws.{rules}
-use Rattle.groups_change.proofs.Dropped.{Dropping, dropping-starts, dropping-turns, one-at-most, dropped-region, dropped-count}
+use lib.ListN.{length}
+use Rattle.octets.specs.Bytes.{le, zeros}
+use Rattle.octets.specs.Place.{put}
+use Rattle.groups.proofs.Laws.{sound-tested}
+use Rattle.groups_change.proofs.Gathered.{count-gone, region-left}
 use Rattle.groups_change.proofs.entries.remove_entries.Statement.{statement}
 use Rattle.groups_change.proofs.entries.remove_entries.Tie as tie
 
-abbrev Inv-loop : tie.InvT-loop
-Inv-loop region₀ k left₀ i₀ gone₀ region left i gone = Dropping region₀ k region left i gone
+-- the length, and that the entries lie within
+size : (c : tie.After-pending-count) → length (c .before .before .before .args .region .now) ≡ 7220
+size c = let x = c .before .before .before in sound-tested (x .args .region .now) (x .pre .0) .size
 
-abbrev μ-loop : tie.MeasureT-loop
-μ-loop region₀ k left₀ i₀ gone₀ region left i gone = left
-
--- few entries, of which at most one goes
-few : (c : tie.In-loop Inv-loop μ-loop) → let l = c .before .loop in l .gone + l .i + l .left ≤ 256
-few c =
-    let l = c .before .loop in
-    let s₀ = c .before .before .before .before .before .args .region .now in
-    let h : length (groupIn s₀ .pending) ≤ 256 = rules (groupIn s₀) (c .before .before .before .before .before .pre .0 .rules-kept) .room in
-    omega (arith, l .inv .count, l .inv .went)
-
-one : (c : tie.After-remove-if Inv-loop μ-loop) → c .remove-if .result ≤ 1
-one c =
-    let l = c .before .before .before .loop in
-    one-at-most (eqb (getD (l .region) (308 + l .i * 27 + 16) 0) (c .before .before .before .before .before .before .before .args .k)) (c .remove-if .result) (c .remove-if .ensures .0)
+size-gathered : (c : tie.After-gather-others) → length (c .gather-others .last .0) ≡ 7220
+size-gathered c = c .gather-others .kept .0 ∙ size (c .before .before)
 
 pub remove-entries-spec : {M : Type 1} → statement M
 remove-entries-spec =
     tie.close
-    (tie.spec Inv-loop μ-loop
+    (tie.spec
     (λ c κs. c .before .before .pre .0)
-    (λ c. let x = c .before .before .before in dropping-starts (x .args .region .now) (x .args .k) (c .pending-count .result) (x .pre .0) (c .pending-count .ensures .0))
-    (λ c κs. let l = c .before .before .loop in (l .inv .sound, omega (arith, l .inv .count)))
-    (λ c. omega (arith, few (c .before .before .before .before), one (c .before .before)))
-    (λ c. omega (arith, one (c .before .before)))
-    (λ c. omega (arith, few (c .before .before .before .before), one (c .before .before)))
-    (λ c. omega arith)
-    (λ c. omega arith)
+    (λ c κs. omega (arith, size (c .before), c .before .pending-count .ensures .1))
+    (λ c. let u = c .before .before .before in omega (arith, u .gather-others .ensures .1, u .before .before .pending-count .ensures .1))
+    (λ c. let u = c .before .before .before in omega (arith, u .gather-others .ensures .1, u .before .before .pending-count .ensures .1))
+    (λ c. let u = c .before .before .before in omega (arith, u .gather-others .ensures .1))
+    (λ c. let u = c .before .before .before in omega (arith, u .gather-others .ensures .1, u .before .before .pending-count .ensures .1))
+    (λ c κs. let u = c .before .before .before in omega (arith, size-gathered u, u .gather-others .ensures .1, u .before .before .pending-count .ensures .1))
+    (λ c κs. let z = c .before .before .before in let u = z .before .before .before .before in (omega arith, omega (arith, z .zero .kept .0, size-gathered u)))
+    (λ c. let z = c .before .before .before .before .before .before in omega (arith, z .before .before .before .before .gather-others .ensures .1))
     (λ c.
-    let x = c .before .before .before .before .before .before .before .before .before in
-    let l = c .before .before .before .before .before .loop in
-    dropping-turns (x .args .region .now) (x .args .k) (l .region) (l .left) (l .i) (l .gone) (c .before .before .remove-if .last .0) (c .before .before .remove-if .result) (l .inv) (omega arith) (x .pre .1) (c .before .before .remove-if .ensures .0) (c .before .before .remove-if .ensures .1))
-    (λ c. c .before .loop .inv .size)
+    let w = c .before .before in
+    let z = w .before .before .before .before in
+    w .write-le .kept .0 ∙ z .zero .kept .0 ∙ z .before .before .before .before .gather-others .kept .0)
     (λ c.
-    let x = c .before .before .before .before .before in
-    let l = c .before .loop in (
-      dropped-count (x .args .region .now) (x .args .k) (l .region) (l .left) (l .i) (l .gone) (l .inv) (omega arith),
-      dropped-region (x .args .region .now) (x .args .k) (l .region) (l .left) (l .i) (l .gone) (l .inv) (omega arith),
+    let w = c .before .before in
+    let z = w .before .before .before .before in
+    let u = z .before .before .before .before in
+    let n = u .before .before .pending-count in
+    let x = u .before .before .before .before .before in
+    let s = x .args .region .now in
+    let m = u .gather-others .result in (
+      count-gone s (x .pre .0) (x .args .k) (x .pre .1) (n .result) (n .ensures .0) m (u .gather-others .ensures .0),
+      w .write-le .ensures
+          ∙ ap (λ (l : List ℕ). put l 306 (le 2 m)) (z .zero .ensures ∙ ap (λ (l : List ℕ). put l (308 + m * 27) (zeros ((n .result - m) * 27))) (u .gather-others .ensures .2))
+          ∙ region-left s (x .pre .0) (x .args .k) (x .pre .1) (n .result) (n .ensures .0) m (u .gather-others .ensures .0),
     )))

@@ -5,8 +5,7 @@ use native.Mathlib.Omega.{arith}
 use borrow.Author.Tests.{not-false}
 use lib.ListN.{length, take, drop}
 use Rattle.octets.specs.Bytes.{Bytes}
-use Rattle.octets.proofs.Laws.{length-area}
-use Rattle.groups.proofs.Laws.{part-is}
+use Rattle.octets.proofs.Laws.{length-area, part-is}
 use Rattle.group_area.specs.Answer.{SoundArea}
 use Rattle.group_area.proofs.Laws.{judged-area}
 use borrow.Author.Needs.{needs}

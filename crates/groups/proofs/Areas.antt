@@ -2,26 +2,25 @@
 use mathlib.Core.Path.{_≡_, refl, sym, ap, ap₂, _∙_, subst}
 use mathlib.Core.Bool.{Bool, true, false}
 use mathlib.Core.List.{List, [], _∷_, _++_, append-assoc}
-use mathlib.Core.Option.{Option, some, none}
+use mathlib.Core.Option.{some}
 use Prim.Native.Nat.{ℕ, zero, suc, _+_, _-_, _*_, _≤_, _<_}
 use native.Mathlib.Omega.{arith}
 use lib.Dec.{eqb}
 use lib.ListN.{length, take, drop, length-append, length-replicate, length-drop, take-append-drop}
 use lib.Seq.{take-at, drop-at}
 use borrow.Author.Tests.{eq-eqb, eqb-true}
-use Rattle.octets.specs.Maybe.{_>>=_, _>>_, need}
+use Rattle.octets.specs.Maybe.{_>>=_, _>>_}
 use Rattle.octets.specs.Bytes.{Bytes, zeros}
 use Rattle.octets.specs.Compare.{allZero}
-use Rattle.octets.proofs.Laws.{zero-all, all-zero, bytes-take, bytes-drop}
+use Rattle.octets.proofs.Laws.{zero-all, all-zero, bytes-take, bytes-drop, answered, needed}
 use Rattle.id.specs.declared.Id.{Id}
-use Rattle.groups.specs.Group.{Group, isGroup}
+use Rattle.groups.specs.Group.{Group}
 use Rattle.groups.specs.Bytes.{regionBytes}
 use Rattle.groups.specs.Parse.{parseRegion}
 use Rattle.groups.specs.Area.{areGroups, isGroups, regions, areaBytes, parseRegions, parseArea}
+use Rattle.groups.proofs.Groups.{first, sound, not-free, length-regions}
 use Rattle.groups.proofs.Rules.{rules}
-use Rattle.groups.proofs.Regions.{RegionRead, length-region, region-parse, region-bytes}
-use Rattle.groups.proofs.Bodies.{bound, needed}
-use Rattle.group_area.proofs.Groups.{First, first, Sound, sound, not-free, length-regions}
+use Rattle.groups.proofs.Regions.{length-region, region-parse, region-bytes}
 
 -- free regions, and one that is used
 module _ (n : ℕ) (s : List ℕ) where
@@ -55,6 +54,9 @@ length-area-bytes last gs e h =
     let z : ℕ = 57760 - length gs * 7220 in
     omega (arith, length-append (regions gs) (zeros z), length-regions last gs e, length-replicate {A = ℕ} z 0)
 
+pub length-groups-area : (last : Id) (gs : List Group) → isGroups last gs ≡ true → length (areaBytes gs) ≡ 57760
+length-groups-area last gs e = let r = sound last gs e in length-area-bytes last gs (r .groups) (r .few)
+
 -- the area of groups is read as those groups
 pub area-parse : (last : Id) (gs : List Group) → isGroups last gs ≡ true → parseArea last (areaBytes gs) ≡ some gs
 unfolding parseArea areaBytes
@@ -81,8 +83,8 @@ module _ (n : ℕ) (s : List ℕ) (gs : List Group) (b : Bytes s) (l : length s 
       let q : [] ≡ gs = cc in
       subst (RegionsRead (suc n) s) q (record { few = omega arith; laid = free-read (suc n) s l z })
   read-case false z e =
-      bound gs (parseRegion (take 7220 s)) _ e λ g e1 k1.
-      bound gs (parseRegions n (drop 7220 s)) _ k1 λ hs e2 k2.
+      answered (parseRegion (take 7220 s)) _ e λ g e1 k1.
+      answered (parseRegions n (drop 7220 s)) _ k1 λ hs e2 k2.
       let q : g ∷ hs ≡ gs = cc in
       let r = region-bytes (take 7220 s) g (bytes-take 7220 b) e1 in
       let w = next hs e2 in
@@ -115,8 +117,8 @@ pub record AreaRead (last : Id) (s : List ℕ) (gs : List Group) : Type 0 where
 pub area-bytes : (last : Id) (s : List ℕ) (gs : List Group) → Bytes s → parseArea last s ≡ some gs → AreaRead last s gs
 unfolding parseArea areaBytes
 area-bytes last s gs b e =
-    needed gs (eqb (length s) 57760) _ e λ l k.
-    bound gs (parseRegions 8 s) _ k λ hs e1 k1.
-    needed gs (isGroups last hs) (some hs) k1 λ r k2.
+    needed (eqb (length s) 57760) _ e λ l k.
+    answered (parseRegions 8 s) _ k λ hs e1 k1.
+    needed (isGroups last hs) (some hs) k1 λ r k2.
     let q : hs ≡ gs = cc in
     subst (AreaRead last s) q (record { bytes = regions-bytes 8 s hs b (eqb-true (length s) 57760 l) e1 .laid; rules-kept = r })

@@ -1,23 +1,22 @@
 -- The rules of the groups, one by one, and how long their regions are. Assumes nothing.
-use mathlib.Core.Path.{_≡_, refl, sym, ap, ap₂, _∙_}
-use mathlib.Core.Bool.{Bool, true, false}
+use mathlib.Core.Path.{_≡_, refl, sym, ap, _∙_}
+use mathlib.Core.Bool.{true, false}
 use mathlib.Core.List.{List, [], _∷_, _++_, append-assoc}
-use Prim.Native.Nat.{ℕ, zero, suc, _+_, _-_, _*_, _≤_, _<_}
+use Prim.Native.Nat.{ℕ, _+_, _-_, _*_, _≤_, _<_}
 use native.Mathlib.Omega.{arith}
-use lib.Dec.{leb, eqb}
+use lib.Dec.{leb}
 use lib.ListN.{length, length-append}
 use borrow.Author.Tests.{leb-true, le-leb, ne-eqb}
 use Rattle.octets.specs.Pick.{both}
 use Rattle.octets.specs.Compare.{allZero}
-use Rattle.octets.proofs.Laws.{both-true}
+use Rattle.octets.proofs.Laws.{both-true, both-of}
 use Rattle.id.specs.declared.Id.{Id}
-use Rattle.groups.specs.Group.{Group, isName, areNames, namesAbove, risingNames, pendingUpTo, isGroup}
+use Rattle.groups.specs.Group.{Group, areNames, namesAbove, risingNames, pendingUpTo, isGroup}
 use Rattle.groups.specs.Bytes.{regionBytes}
 use Rattle.groups.specs.Area.{mostGroups, namesOf, areGroups, isGroups, regions}
-use Rattle.groups.proofs.Tools.{both-of}
-use Rattle.groups.proofs.Names.{Named, named, rising-above, above-rising}
-use Rattle.groups.proofs.Rules.{Rules, rules}
+use Rattle.groups.proofs.Names.{named, rising-above, above-rising}
+use Rattle.groups.proofs.Rules.{rules}
 use Rattle.groups.proofs.Regions.{length-region}
 
 -- the first group and the others
 pub record First (last : Id) (g : Group) (gs : List Group) : Type 0 where

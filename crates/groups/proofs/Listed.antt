@@ -1,28 +1,27 @@
 -- The groups by rising name: one put in or in the place of its namesake, one taken out, one found, and the rules that are kept.
 -- Assumes nothing.
-use mathlib.Core.Path.{_≡_, refl, sym, ap, ap₂, _∙_, subst}
+use mathlib.Core.Path.{_≡_, refl, sym, ap, _∙_, subst}
 use mathlib.Core.Bool.{Bool, true, false}
 use mathlib.Core.List.{List, [], _∷_, _++_}
-use mathlib.Core.Option.{Option, some, none}
-use Prim.Native.Nat.{ℕ, zero, suc, _+_, _-_, _≤_, _<_}
+use mathlib.Core.Option.{some, none}
+use Prim.Native.Nat.{ℕ, suc, _+_, _-_, _≤_, _<_}
 use native.Mathlib.Omega.{arith}
 use lib.ListN.{length, take, drop}
 use Rattle.octets.specs.Pick.{pick}
-use Rattle.octets.specs.Compare.{same, orderOf, isLess}
+use Rattle.octets.specs.Compare.{same, orderOf, isLess, comesBefore}
 use Rattle.octets.specs.declared.Order.the-variants.{Less, Equal, Greater}
-use Rattle.octets.proofs.Laws.{order-equal, same-refl, same-true}
+use Rattle.octets.proofs.Laws.{order-equal, never}
 use Rattle.id.specs.declared.Id.{Id}
 use Rattle.id.specs.Id.{Fits64}
 use Rattle.groups.specs.declared.Spot.the-variants.{Known, New}
-use Rattle.groups.specs.Group.{Group, isName, nameBefore, areNames, namesAbove, isAmong, arePending, pendingAbove, pendingUpTo, isGroup}
+use Rattle.groups.specs.Group.{Group, isName, areNames, namesAbove, isAmong, arePending, pendingAbove, pendingUpTo, isGroup}
 use Rattle.groups.specs.Step.{withName, withoutName, findGroup, putGroup, withoutGroup, newGroup}
 use Rattle.groups.specs.Answer.{spotBy, spotFrom}
 use Rattle.groups.specs.Area.{namesOf, areGroups, isGroups}
-use Rattle.groups.proofs.Laws.{never, is-group, before-differs, after-differs, with-known}
-use Rattle.groups.proofs.Names.{named, empty-before}
-use Rattle.groups.proofs.Rules.{rules}
-use Rattle.groups.proofs.Consumers.{by-name, greater-before, equal-same, among-first, among-later, among-rest, with-equal, with-less, with-greater, above-with, above-without}
-use Rattle.group_area.proofs.Groups.{First, first, joined, Sound, sound, are-sound}
+use Rattle.groups.proofs.Rules.{is-group, rules}
+use Rattle.groups.proofs.Names.{before-differs, after-differs, named, empty-before}
+use Rattle.groups.proofs.Consumers.{with-known, by-name, greater-before, equal-same, with-equal, with-less, with-greater, above-with, above-without}
+use Rattle.groups.proofs.Groups.{First, first, joined, sound, are-sound}
 
 pub length-names : (gs : List Group) → length (namesOf gs) ≡ length gs
 length-names [] = refl
@@ -274,7 +273,7 @@ module _ (last : Id) where
       → length (putGroup g gs) ≤ 8 → isGroups last (putGroup g gs) ≡ true
   put-sound g gs e k u h =
       let r = sound last gs e in
-      let b : nameBefore [] (g .name) ≡ true = empty-before (g .name) (named (g .name) (rules g k .named) .some-bytes) in
+      let b : comesBefore [] (g .name) ≡ true = empty-before (g .name) (named (g .name) (rules g k .named) .some-bytes) in
       are-sound last (putGroup g gs)
       (record {
         few = h;
