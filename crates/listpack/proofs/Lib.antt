@@ -16,3 +16,5 @@ pub mod Compared
 pub mod Walks
 pub mod Writes
 pub mod Examples
+pub mod There
+pub mod Lying

@@ -4,3 +4,4 @@ pub mod Element
 pub mod Listpack
 pub mod Read
 pub mod Cursor
+pub mod Known
