@@ -14,5 +14,6 @@ pub mod Whole
 pub mod Octets
 pub mod Compared
 pub mod Walks
+pub mod AtPlace
 pub mod Writes
 pub mod Examples
