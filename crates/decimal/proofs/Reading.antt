@@ -12,11 +12,9 @@ use borrow.Author.Tests.{le-leb, lt-leb, ne-eqb}
 use Rattle.decimal.proofs.Natural.{positive-text, length-shorter}
 use Rattle.decimal.proofs.Cases.{up-to, recognised-integer, recognised-other}
 use Rattle.octets.specs.Compare.{same}
+use Rattle.octets.proofs.Laws.{cut}
 use Rattle.decimal.specs.Integer.{digitsAfter, positiveOf, upTo, unsignedOf, negativeOf, signedOf, patternOf, recognisedBy}
 use Rattle.decimal.specs.declared.Recognised.the-variants.{Integer, Other}
-
-cut : (s : List ℕ) (i : ℕ) → i < length s → drop i s ≡ getD s i 0 ∷ drop (i + 1) s
-cut s i h = rw (add-one, drop-cons s i 0)
 
 -- 18 digits have room for one more
 pub room : (k n : ℕ) → n < 10 ^ k → k ≤ 18 → 10 * n + 9 < 2 ^ 64

@@ -10,7 +10,7 @@ use Rattle.octets.specs.Pick.{pick}
 use Rattle.octets.specs.Bytes.{le}
 use Rattle.listpack.specs.Width.{fits, halfOf}
 use Rattle.listpack.specs.Element.{integerBody, tinyBody, shortBody, wideBody, textHead, backLength}
-use Rattle.listpack.proofs.Walk.{pick-lt, pick-by}
+use Rattle.octets.proofs.Laws.{pick-lt, pick-by}
 
 -- what a claim about every body has to be shown of: each form, with what is known where it is the first that fits
 pub record Forms (P : List ℕ → Type 0) (p : ℕ) : Type 0 where

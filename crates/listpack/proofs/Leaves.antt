@@ -18,17 +18,13 @@ use Rattle.octets.specs.Maybe.{isNone}
 use Rattle.decimal.specs.Integer.{patternOf, recognisedBy}
 use Rattle.decimal.specs.declared.Recognised.{Recognised}
 use Rattle.decimal.specs.declared.Recognised.the-variants.{Integer as Numeral, Other}
-use Rattle.octets.proofs.Laws.{same-length, part-area}
+use Rattle.octets.proofs.Laws.{same-length}
 use Rattle.listpack.specs.Width.{extend, halfOf}
 use Rattle.listpack.specs.Element.{integerBody, textHead, backLength}
 use Rattle.listpack.specs.Read.{backAt, integerStands, asInteger, closeInteger, textStands, asText, closeText, tagWidth, readWide, readBy, readElement}
 use Rattle.listpack.specs.declared.Element.the-variants.{Integer, Text, Bad}
-use Rattle.listpack.proofs.Walk.{pick-eq}
+use Rattle.octets.proofs.Laws.{pick-eq, pick-same}
 use Rattle.listpack.proofs.Forms.{back-size}
-
-pub pick-same : {A : Type 0} (t : Bool) (x : A) → pick t x x ≡ x
-pick-same true x = refl
-pick-same false x = refl
 
 pub pick-self : (t : Bool) → pick t true false ≡ t
 pick-self true = refl
@@ -76,12 +72,6 @@ integer-made p n = refl
 pub integer-bad : (p n : ℕ) → asInteger p n false ≡ Bad
 unfolding asInteger
 integer-bad p n = refl
-
--- a part that is lent, `&s[at..at + l]`
-pub lent : (s : List ℕ) (at l : ℕ) → take (at + l - at) (drop at s) ≡ area at l s
-lent s at l =
-    let q : at + l - at ≡ l = omega arith in
-    ap (λ (k : ℕ). take k (drop at s)) q ∙ part-area at l s
 
 -- what recognise says
 module _ (s : List ℕ) (r : Recognised) (e : r ≡ recognisedBy (patternOf s)) where

@@ -14,6 +14,7 @@ pub mod Whole
 pub mod Octets
 pub mod Compared
 pub mod Walks
+pub mod AtPlace
 pub mod Writes
 pub mod Examples
 pub mod There

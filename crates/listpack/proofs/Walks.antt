@@ -22,15 +22,11 @@ use Rattle.listpack.specs.declared.Element.the-variants.{Integer, Text, 
 use Rattle.listpack.specs.declared.cursor.Cursor.{Cursor}
 use Rattle.listpack.specs.declared.cursor.Step.{Step}
 use Rattle.listpack.specs.declared.cursor.Step.the-variants.{Item, Done, Broken}
-use Rattle.listpack.proofs.Walk.{pick-eq}
+use Rattle.octets.proofs.Laws.{pick-eq, pick-same}
 use Rattle.listpack.proofs.Sound.{Sound, sound}
-use Rattle.listpack.proofs.Leaves.{read-none, pick-same, pick-self}
+use Rattle.listpack.proofs.Leaves.{read-none, pick-self}
 use Rattle.listpack.proofs.Strings.{parse-by}
 use Rattle.listpack.proofs.Sizes.{integer-bounds}
-
--- a part that is lent to its end, `&s[at..]`
-pub tail : (s : List ℕ) (at : ℕ) → take (length s - at) (drop at s) ≡ drop at s
-tail s at = take-all (length s - at) (drop at s) (omega (arith, length-drop at s))
 
 -- an element lies within the bytes
 pub size-within : (s : List ℕ) → Bytes s → sizeOf (readElement s) ≤ length s

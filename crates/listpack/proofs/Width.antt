@@ -6,7 +6,7 @@ use native.Mathlib.Omega.{arith}
 use lib.Pow.{pow-add, pow-mono, pow-pos}
 use borrow.Author.Tests.{lt-ltb, le-ltb, le-leb, lt-leb, leb-true}
 use Rattle.listpack.specs.Width.{fits, narrow, extend, halfOf}
-use Rattle.listpack.proofs.Walk.{pick-lt}
+use Rattle.octets.proofs.Laws.{pick-lt}
 
 module _ (half p : ℕ) where
   pub fits-low : p < half → fits half p ≡ true

@@ -87,7 +87,7 @@ impl Cursor {
 }
 
 // The end byte stands there, and nothing after it.
-fn end_at(s: &[u8], at: usize) -> bool
+pub fn end_at(s: &[u8], at: usize) -> bool
     ensures { λ r. ⌜ r ≡ same (drop at (now (s .entry))) (255 ∷ []) ⌝ }
 {
     if s.len() <= at {

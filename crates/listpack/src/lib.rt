@@ -7,11 +7,13 @@ mod is;
 mod known;
 mod read;
 mod size;
+mod strict;
 mod write;
 
 pub use cursor::Cursor;
 pub use cursor::Step;
 pub use cursor::check;
+pub use cursor::end_at;
 pub use cursor::size_of;
 pub use header::read_count;
 pub use header::read_total;
@@ -26,6 +28,9 @@ pub use known::known_size;
 pub use read::read_element;
 pub use size::element_size;
 pub use size::integer_size;
+pub use strict::long_integer;
+pub use strict::long_size;
+pub use strict::strings_end;
 pub use write::write_integer;
 pub use write::write_string;
 

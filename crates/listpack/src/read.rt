@@ -39,7 +39,7 @@ fn back_at(n: usize, s: &[u8]) -> bool
 }
 
 // An integer in n bytes: the first form that fits it has as many, and it is closed.
-fn integer_stands(s: &[u8], p: u64, n: usize) -> bool
+pub fn integer_stands(s: &[u8], p: u64, n: usize) -> bool
     requires { ⌜ n ≤ 9 ⌝ }
     ensures { λ r. ⌜ r ≡ integerStands (now (s .entry)) p n ⌝ }
 {
@@ -64,7 +64,7 @@ fn as_integer(p: u64, n: usize, stands: bool) -> Element
 }
 
 // The string is no integer.
-fn is_text(s: &[u8]) -> bool
+pub fn is_text(s: &[u8]) -> bool
     ensures { λ r. ⌜ r ≡ isNone (patternOf (now (s .entry))) ⌝ }
 {
     let found = decimal::recognise(s);
@@ -75,7 +75,7 @@ fn is_text(s: &[u8]) -> bool
 }
 
 // A text of l bytes from at on: it has that head, is closed and is no integer, which is asked last since it looks at every digit.
-fn text_stands(s: &[u8], at: usize, l: usize) -> bool
+pub fn text_stands(s: &[u8], at: usize, l: usize) -> bool
     requires { ⌜ (at ≤ 2) × (l < 4096) ⌝ }
     ensures { λ r. ⌜ r ≡ textStands (now (s .entry)) at l ⌝ }
 {
@@ -106,7 +106,7 @@ fn as_text(at: usize, l: usize, stands: bool) -> Element
 }
 
 // The number in the w bytes after the first.
-fn wide_value(s: &[u8], w: usize) -> u64
+pub fn wide_value(s: &[u8], w: usize) -> u64
     requires { ⌜ (1 ≤ w) × (w ≤ 8) × (w < length (now s)) ⌝ }
     ensures { λ r. ⌜ r ≡ extend (halfOf w) (leValue (area 1 w (now (s .entry)))) ⌝ }
 {

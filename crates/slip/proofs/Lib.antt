@@ -1,6 +1,5 @@
 -- The laws by topic. Assumes nothing.
 pub mod Laws
-pub mod Stages
 pub mod Strings
 pub mod Pairs
 pub mod Walk

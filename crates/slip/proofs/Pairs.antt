@@ -13,7 +13,7 @@ use Rattle.octets.specs.Bytes.{Bytes}
 use Rattle.octets.proofs.Laws.{both-true, bytes-tail}
 use Rattle.slip.specs.Pair.{Pair, pair, isString, areStrings, isPairCount, arePairs}
 use Rattle.slip.specs.Slip.{slipString, slipPairs, slip, cutString, parsePairs, parseSlip}
-use Rattle.slip.proofs.Stages.{needed, answered, some-is}
+use Rattle.octets.proofs.Laws.{needed, answered, some-is}
 use Rattle.slip.proofs.Strings.{is-string, cut-string, string-cut, cut-rules}
 
 -- the rules of the first pair, and of the others

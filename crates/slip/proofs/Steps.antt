@@ -14,7 +14,7 @@ use Rattle.slip.specs.Slip.{slipString, slipPairs, slip, parsePairs, par
 use Rattle.slip.specs.Answer.{isSlip, pairsBy, pairsIn, lengthAt, cursor, pairsAt, stepOf}
 use Rattle.slip.specs.declared.SlipCursor.{SlipCursor}
 use Rattle.slip.specs.declared.SlipStep.the-variants.{Found, Done}
-use Rattle.slip.proofs.Stages.{needed}
+use Rattle.octets.proofs.Laws.{needed}
 use Rattle.slip.proofs.Strings.{length-string}
 use Rattle.slip.proofs.Pairs.{pairs-count}
 use Rattle.slip.proofs.Walk.{first-at, step-done, step-found}

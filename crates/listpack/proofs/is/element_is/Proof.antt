@@ -2,7 +2,7 @@
 use mathlib.Core.Path.{sym, ap, _∙_}
 use native.Mathlib.Omega.{arith}
 use Rattle.listpack.proofs.Sound.{Sound, sound}
-use Rattle.listpack.proofs.Leaves.{lent}
+use Rattle.octets.proofs.Laws.{part-is}
 use Rattle.listpack.proofs.Compared.{holds-by}
 use denote.Ref.{now}
 use mathlib.Core.Path.{subst}
@@ -38,5 +38,5 @@ element-is-spec =
     (λ c. c .integer-is .ensures ∙ sym (holds-by _ _ _ (sym (c .before .before .before .before .read-element .ensures) ∙ c .before .before .e .given .1)))
     (λ c. let a = c .before .before .before .before .before .before .before .before .args in
     let x = c .before .before .before .e2 .given .0 in
-    c .equal .ensures ∙ ap (λ (l : List _). same l (now (a .x))) (lent (now (a .s)) (x .0) (x .1 .0)) ∙ sym (holds-by _ _ _ (sym (c .before .before .before .before .before .read-element .ensures) ∙ c .before .before .before .e2 .given .1)))
+    c .equal .ensures ∙ ap (λ (l : List _). same l (now (a .x))) (part-is (x .0) (x .1 .0) (now (a .s))) ∙ sym (holds-by _ _ _ (sym (c .before .before .before .before .before .read-element .ensures) ∙ c .before .before .before .e2 .given .1)))
     (λ c. sym (holds-by _ _ _ (sym (c .before .before .read-element .ensures) ∙ c .enum-told .given .1))))
