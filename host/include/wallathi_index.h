@@ -9,6 +9,12 @@
  * Every operation first validates the whole record. A record that is not exactly the shape of some set of keys is refused as damaged,
  * never followed. A changed byte that makes the record of other keys or values is no damage.
  *
+ * Records that hold the same keys and values may differ in their bytes, as the nodes of the tree may stand at any places: compare what
+ * two records hold, not their bytes.
+ *
+ * A call costs the validation, at every call the whole record: some 56,000 instructions for a find among 64 names. A put or a remove
+ * that changes something builds the record anew besides. A call needs 80 KB of stack (58 to 74 KB were measured).
+ *
  * Each function answers one of the numbers below. If several refusals apply, the lowest is answered. Unless the answer is
  * WALLATHI_INDEX_OK, no byte is changed: not of the record, not of the output, not of an out-parameter.
  *
@@ -18,8 +24,8 @@
  *     static uint8_t record[WALLATHI_INDEX_RECORD_BYTES];
  *     uint64_t value;
  *     wallathi_index_set_up(record);
- *     wallathi_index_put(record, (const uint8_t *)"Hobart", 6, 11);
- *     if (wallathi_index_find(record, (const uint8_t *)"Hobart", 6, &value) == WALLATHI_INDEX_OK)
+ *     if (wallathi_index_put(record, (const uint8_t *)"Hobart", 6, 11) == WALLATHI_INDEX_OK
+ *         && wallathi_index_find(record, (const uint8_t *)"Hobart", 6, &value) == WALLATHI_INDEX_OK)
  *         printf("%u\n", (unsigned)value);
  *
  * Link libwallathi_index.a.
@@ -72,7 +78,7 @@ uint32_t wallathi_index_put(uint8_t *record, const uint8_t *key, size_t key_leng
 uint32_t wallathi_index_remove(uint8_t *record, const uint8_t *key, size_t key_length, uint64_t *count);
 
 /*
- * The value of a key.
+ * The value of a key. It is below 2^32; every number that a function gives is 64 bits wide, so that one kind of out-parameter serves all.
  * WALLATHI_INDEX_OK, WALLATHI_INDEX_NONE, or the refusals 2 and 3.
  */
 uint32_t wallathi_index_find(const uint8_t *record, const uint8_t *key, size_t key_length, uint64_t *value);

@@ -9,8 +9,14 @@ fn main() {
         Some(folder) => PathBuf::from(folder),
         None => here.join("../../target/staticlib"),
     };
+    let archive = folder.join("libwallathi_index.a");
     println!("cargo:rerun-if-env-changed=WALLATHI_LIB");
-    println!("cargo:rerun-if-changed={}", folder.join("libwallathi_index.a").display());
+    println!("cargo:rerun-if-changed={}", archive.display());
+    assert!(
+        archive.is_file(),
+        "{} is missing: run `rt staticlib wallathi_index` at the top of the repository, or set WALLATHI_LIB to its folder",
+        archive.display()
+    );
     println!("cargo:rustc-link-search=native={}", folder.display());
     println!("cargo:rustc-link-lib=static=wallathi_index");
 }

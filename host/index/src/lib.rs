@@ -102,6 +102,9 @@ impl fmt::Debug for Entry {
 }
 
 /// An index that owns its record.
+///
+/// Two are equal where their records are, byte for byte. Equal ones hold the same entries, but the
+/// converse does not hold: the nodes of a stored record may stand at any places.
 #[derive(Clone, PartialEq, Eq)]
 pub struct Index {
     record: Box<[u8]>,
