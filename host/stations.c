@@ -12,22 +12,33 @@
 
 static uint8_t record[WALLATHI_INDEX_RECORD_BYTES];
 
-/* What an answer says where there is no value to print. */
-static const char *meaning(uint32_t answer)
+/* What an answer without a value says. */
+static const char *word(uint32_t answer)
 {
     switch (answer) {
     case WALLATHI_INDEX_OK: return "done";
     case WALLATHI_INDEX_DAMAGED: return "damaged";
-    case WALLATHI_INDEX_BAD_KEY: return "refused: a name has 1 to 16 bytes";
-    case WALLATHI_INDEX_FULL: return "refused: 64 stations are held";
+    case WALLATHI_INDEX_BAD_KEY: return "not a key";
+    case WALLATHI_INDEX_SHORT_OUTPUT: return "short output";
+    case WALLATHI_INDEX_FULL: return "full";
     case WALLATHI_INDEX_NONE: return "none";
-    default: return "refused";
+    default: return "unknown answer";
     }
 }
 
 static void put(const char *name, uint32_t number)
 {
-    printf("put %s: %s\n", name, meaning(wallathi_index_put(record, (const uint8_t *)name, strlen(name), number)));
+    printf("put %s: %s\n", name, word(wallathi_index_put(record, (const uint8_t *)name, strlen(name), number)));
+}
+
+static void take_out(const char *name)
+{
+    uint64_t count;
+    uint32_t answer = wallathi_index_remove(record, (const uint8_t *)name, strlen(name), &count);
+    if (answer == WALLATHI_INDEX_OK)
+        printf("remove %s: %u\n", name, (unsigned)count);
+    else
+        printf("remove %s: %s\n", name, word(answer));
 }
 
 static void find(const char *name)
@@ -37,18 +48,7 @@ static void find(const char *name)
     if (answer == WALLATHI_INDEX_OK)
         printf("find %s: %u\n", name, (unsigned)number);
     else
-        printf("find %s: %s\n", name, meaning(answer));
-}
-
-/* How many went: 1 or 0. */
-static void remove_station(const char *name)
-{
-    uint64_t count;
-    uint32_t answer = wallathi_index_remove(record, (const uint8_t *)name, strlen(name), &count);
-    if (answer == WALLATHI_INDEX_OK)
-        printf("remove %s: %u\n", name, (unsigned)count);
-    else
-        printf("remove %s: %s\n", name, meaning(answer));
+        printf("find %s: %s\n", name, word(answer));
 }
 
 /* The station at a name or, where no station has it, the last one before. */
@@ -58,9 +58,9 @@ static void last_up_to(const char *name)
     uint64_t length, number;
     uint32_t answer = wallathi_index_last_at_or_below(record, (const uint8_t *)name, strlen(name), found, LONGEST, &length, &number);
     if (answer == WALLATHI_INDEX_OK)
-        printf("last up to %s: %.*s\n", name, (int)length, (const char *)found);
+        printf("last up to %s: \"%.*s\" %u\n", name, (int)length, (const char *)found, (unsigned)number);
     else
-        printf("last up to %s: %s\n", name, meaning(answer));
+        printf("last up to %s: %s\n", name, word(answer));
 }
 
 /* Makes a key the next possible one: a zero byte more or, at full length, the last byte below 255 counted up. The answer is its
@@ -78,7 +78,7 @@ static size_t next_key(uint8_t *key, size_t length)
     return length;
 }
 
-/* All stations in order, from the least possible key on. The list ends at none; any other answer is told. */
+/* All stations in order, from the least possible key on. */
 static void list(void)
 {
     uint8_t key[LONGEST] = {0}, found[LONGEST];
@@ -94,8 +94,8 @@ static void list(void)
         memcpy(key, found, (size_t)length);
         key_length = next_key(key, (size_t)length);
     }
-    if (key_length > 0 && answer != WALLATHI_INDEX_NONE)
-        printf("    %s\n", meaning(answer));
+    if (answer != WALLATHI_INDEX_OK && answer != WALLATHI_INDEX_NONE)
+        printf("    %s\n", word(answer));
 }
 
 int main(void)
@@ -113,12 +113,15 @@ int main(void)
     find("Auckland");
     last_up_to("Rabaul");
     last_up_to("Apia");
-    remove_station("Honiara");
-    remove_station("Apia");
+    take_out("Honiara");
+    take_out("Honiara");
     put("Hobart", 21);
     list();
     record[0] ^= 1;
     find("Hobart");
+    put("Apia", 7);
+    take_out("Suva");
+    last_up_to("Suva");
     list();
     return 0;
 }

@@ -4,19 +4,16 @@
  * The index lives in a record of WALLATHI_INDEX_RECORD_BYTES bytes, of any alignment. It has no pointers in it: copy it, move it, write
  * it to a file and read it back. The library allocates nothing, keeps nothing between calls and calls nothing but memory functions of C.
  *
- * A call takes at most 80 KB of stack (58 to 74 KB measured), copies the record, and costs about the same whatever is asked: 2 microseconds
- * with one key, some 10 with 64, twice that for a change (docs/PERFORMANCE.md), since every call validates the whole record first.
- *
- * Records of equal keys and values may differ in their bytes, since a node may stand at any place of the pool: compare indexes by their
- * keys, not by their bytes. Copies of one record are equal.
- *
  * Order is bytewise, bytes counting as 0 to 255, and a key comes before the longer keys that it starts.
  *
  * Every operation first validates the whole record. A record that is not exactly the shape of some set of keys is refused as damaged,
  * never followed. A changed byte that makes the record of other keys or values is no damage.
  *
- * Values have 32 bits. An out-parameter has 64 all the same, filled with zeros above them: all out-parameters of the library are of one
- * type, so none is written half.
+ * Records that hold the same keys and values may differ in their bytes, as the nodes of the tree may stand at any places: compare what
+ * two records hold, not their bytes.
+ *
+ * A call costs the validation, at every call the whole record: some 56,000 instructions for a find among 64 names. A put or a remove
+ * that changes something builds the record anew besides. A call needs 80 KB of stack (58 to 74 KB were measured).
  *
  * Each function answers one of the numbers below. If several refusals apply, the lowest is answered. Unless the answer is
  * WALLATHI_INDEX_OK, no byte is changed: not of the record, not of the output, not of an out-parameter.
@@ -27,15 +24,11 @@
  *     static uint8_t record[WALLATHI_INDEX_RECORD_BYTES];
  *     uint64_t value;
  *     wallathi_index_set_up(record);
- *     if (wallathi_index_put(record, (const uint8_t *)"Hobart", 6, 11) != WALLATHI_INDEX_OK)
- *         return 1;
- *     switch (wallathi_index_find(record, (const uint8_t *)"Hobart", 6, &value)) {
- *     case WALLATHI_INDEX_OK: printf("%u\n", (unsigned)value); break;
- *     case WALLATHI_INDEX_NONE: printf("none\n"); break;
- *     default: return 1;
- *     }
+ *     if (wallathi_index_put(record, (const uint8_t *)"Hobart", 6, 11) == WALLATHI_INDEX_OK
+ *         && wallathi_index_find(record, (const uint8_t *)"Hobart", 6, &value) == WALLATHI_INDEX_OK)
+ *         printf("%u\n", (unsigned)value);
  *
- * Link libwallathi_index.a. host/test compiles and runs this example as it stands here.
+ * Link libwallathi_index.a.
  */
 #ifndef WALLATHI_INDEX_H
 #define WALLATHI_INDEX_H
@@ -85,7 +78,7 @@ uint32_t wallathi_index_put(uint8_t *record, const uint8_t *key, size_t key_leng
 uint32_t wallathi_index_remove(uint8_t *record, const uint8_t *key, size_t key_length, uint64_t *count);
 
 /*
- * The value of a key.
+ * The value of a key. It is below 2^32; every number that a function gives is 64 bits wide, so that one kind of out-parameter serves all.
  * WALLATHI_INDEX_OK, WALLATHI_INDEX_NONE, or the refusals 2 and 3.
  */
 uint32_t wallathi_index_find(const uint8_t *record, const uint8_t *key, size_t key_length, uint64_t *value);

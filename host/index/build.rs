@@ -12,10 +12,11 @@ fn main() {
     let archive = folder.join("libwallathi_index.a");
     println!("cargo:rerun-if-env-changed=WALLATHI_LIB");
     println!("cargo:rerun-if-changed={}", archive.display());
-    if !archive.exists() {
-        eprintln!("{} is missing: run `rt staticlib wallathi_index` at the top of the repository", archive.display());
-        std::process::exit(1);
-    }
+    assert!(
+        archive.is_file(),
+        "{} is missing: run `rt staticlib wallathi_index` at the top of the repository, or set WALLATHI_LIB to its folder",
+        archive.display()
+    );
     println!("cargo:rustc-link-search=native={}", folder.display());
     println!("cargo:rustc-link-lib=static=wallathi_index");
 }

@@ -6,15 +6,12 @@ use Rattle.keys.proofs.Laws.{reads-after}
 use Rattle.radix.specs.declared.Index.{Index}
 use Rattle.keys.specs.Entries.{Entry}
 use Rattle.radix.specs.Record.{entriesOf}
-use Rattle.keys.specs.Operation.{Operation, Reply, operate, replies, operateAll}
-use Rattle.index.specs.Promise.{Answers, Shows, Changes}
+use Rattle.keys.specs.Operation.{Operation, Reply, operate, replies, operateAll, replyIn}
+use Rattle.index.specs.Promise.{Changes}
 use Rattle.index.specs.Run.{Made, made-none, made-change, made-answer}
 
-changed : (o : Operation) (x y : Index) (a : Reply) (es : List Entry) → entriesOf x ≡ some es → Changes o (entriesOf x) x a y → Shows (operate o es) x a y
+changed : (o : Operation) (x y : Index) (a : Reply) (es : List Entry) → entriesOf x ≡ some es → Changes o (entriesOf x) x a y → Changes o (some es) x a y
 changed o x y a es e h = subst (λ (w : Option (List Entry)). Changes o w x a y) e h
-
-answers : (o : Operation) (x : Index) (a : Reply) (es : List Entry) → entriesOf x ≡ some es → Answers o (entriesOf x) a → a ≡ operate o es .reply
-answers o x a es e h = subst (λ (w : Option (List Entry)). Answers o w a) e h
 
 -- every list of operations: the replies are those of the sorted map, and the record holds what the list makes of what it held
 pub whole : {os : List Operation} {x z : Index} {rs : List Reply} → Made os x z rs → (es : List Entry) → entriesOf x ≡ some es
@@ -27,7 +24,7 @@ whole (made-change {o} {os} {x} {y} {z} {a} {rs} h m) es e =
     (ap₂ (λ (b : Reply) (bs : List Reply). b ∷ bs) (s .reply) (r .0), r .1)
 whole (made-answer {o} {os} {x} {z} {a} {rs} p h m) es e =
     let r = whole m (operate o es .after) (e ∙ ap some (sym (reads-after o es p))) in
-    (ap₂ (λ (b : Reply) (bs : List Reply). b ∷ bs) (answers o x a es e h) (r .0), r .1)
+    (ap₂ (λ (b : Reply) (bs : List Reply). b ∷ bs) (h ∙ ap (replyIn o) e) (r .0), r .1)
 
 -- from a record of no entries
 pub from-empty : {os : List Operation} {x z : Index} {rs : List Reply} → entriesOf x ≡ some [] → Made os x z rs

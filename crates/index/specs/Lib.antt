@@ -1,4 +1,3 @@
 -- Read in this order, after Entries and Operation of the crate keys, and Record of radix.
-pub mod Answer
 pub mod Promise
 pub mod Run

@@ -1,38 +1,22 @@
--- What an operation on a record promises, by cases on the entries that the record holds (01, The index; refusal 2 where it holds none).
--- Assumes nothing.
+-- What an operation on a record promises, on the entries e that the record holds (01, The index; refusal 2 where it holds none).
+-- Operations that only read promise the reply, `replyIn`. Assumes nothing.
 use mathlib.Core.Path.{_≡_}
 use mathlib.Core.List.{List}
 use mathlib.Core.Option.{Option, some, none}
-use Rattle.radix.specs.declared.Index.{Index}
+use Rattle.octets.specs.Pick.{pick}
 use Rattle.keys.specs.Entries.{Entry}
-use Rattle.keys.specs.Operation.{value, Operation, Reply, refused, done, removed, found, nothing, Replied, operate}
+use Rattle.keys.specs.Operation.{Operation, Reply, operate, isChange, replyIn, entriesAfter}
+use Rattle.radix.specs.declared.Index.{Index}
 use Rattle.radix.specs.Record.{entriesOf}
+use Rattle.radix.specs.Layout.{recordOf}
 
--- an operation that only reads
-abbrev pub Answers : Operation → Option (List Entry) → Reply → Type 0
-Answers o none a = a ≡ refused 2
-Answers o (some es) a = a ≡ operate o es .reply
-
--- what changes no entry changes no field
-abbrev pub Kept : Reply → Index → Index → Type 0
-Kept (refused n) x y = y ≡ x
-Kept done x y = Unit {0}
-Kept (removed n) x y = n ≡ 0 → y ≡ x
-Kept (value v) x y = y ≡ x
-Kept (found e) x y = y ≡ x
-Kept nothing x y = y ≡ x
-
-pub record Shows (r : Replied) (x : Index) (a : Reply) (y : Index) : Type 0 where
-  pub reply : a ≡ r .reply
-  pub holds : entriesOf y ≡ some (r .after)
-  pub kept : Kept (r .reply) x y
+-- the record after an operation: made of the entries where these change, else as it was
+abbrev pub indexAfter : Operation → Option (List Entry) → Index → Index
+indexAfter o none x = x
+indexAfter o (some es) x = pick (isChange (operate o es .reply)) (recordOf (operate o es .after)) x
 
 -- entered with the record x, answered a, left with the record y
-abbrev pub Changes : Operation → Option (List Entry) → Index → Reply → Index → Type 0
-Changes o none x a y = (a ≡ refused 2) × (y ≡ x)
-Changes o (some es) x a y = Shows (operate o es) x a y
-
--- a record that holds entries
-abbrev pub IsSound : Option (List Entry) → Type 0
-IsSound none = ⊥
-IsSound (some es) = Unit {0}
+pub record Changes (o : Operation) (e : Option (List Entry)) (x : Index) (a : Reply) (y : Index) : Type 0 where
+  pub reply : a ≡ replyIn o e
+  pub index-is : y ≡ indexAfter o e x
+  pub holds : entriesOf y ≡ entriesAfter o e

@@ -1,19 +1,21 @@
 // The first key at or above a key, and the last at or below it. Refusals in rising order of their numbers: 2, then 3.
 
 ghost use mathlib.Core.Path.{_≡_};
-ghost use Prim.Native.Nat.{_≤_};
+ghost use mathlib.Core.Option.{Option};
+ghost use Rattle.keys.specs.Entries.{Entry};
+ghost use Rattle.keys.specs.Operation.{refused, firstAtOrAbove, lastAtOrBelow, replyIn, entryReply};
 ghost use Rattle.radix.specs.Record.{entriesOf};
-ghost use Rattle.keys.specs.Operation.{refused, firstAtOrAbove, lastAtOrBelow};
-ghost use Rattle.index.specs.Answer.{nearReply, neighbourReply};
-ghost use Rattle.index.specs.Promise.{Answers, IsSound};
-use crate::Neighbour;
-use crate::Outcome;
+ghost use Rattle.radix_walk.specs.Neighbours.{nearOf};
+ghost use Rattle.keys.specs.Answer.{neighbourOf};
+ghost use Rattle.keys.specs.Listing.{IsSound};
+use keys::Neighbour;
+use keys::Outcome;
 use keys::is_key;
 use radix::Index;
 use radix_walk::Near;
 
 fn refusal(n: u32) -> Neighbour
-    ensures { λ r. ⌜ (neighbourReply r ≡ refused n) × (r .len ≤ 16) ⌝ }
+    ensures { λ r. ⌜ r ≡ neighbourOf (refused n) ⌝ }
 {
     Neighbour {
         outcome: Outcome::Refused(n),
@@ -25,8 +27,7 @@ fn refusal(n: u32) -> Neighbour
 
 // What a walk found.
 fn neighbour_of(n: Near) -> Neighbour
-    requires { ⌜ n .len ≤ 16 ⌝ }
-    ensures { λ r. ⌜ (neighbourReply r ≡ nearReply n) × (r .len ≤ 16) ⌝ }
+    ensures { λ r. ⌜ ((e : Option Entry) → n ≡ nearOf e → r ≡ neighbourOf (entryReply e)) ⌝ }
 {
     let len = n.len;
     let value = n.value;
@@ -50,7 +51,7 @@ fn neighbour_of(n: Near) -> Neighbour
 // For a record that is known to hold entries.
 pub fn first_at_or_above_sound(x: Index, k: &[u8]) -> Neighbour
     requires { ⌜ IsSound (entriesOf x) ⌝ }
-    ensures { λ r. ⌜ Answers (firstAtOrAbove (now (k .entry))) (entriesOf x) (neighbourReply r) × (r .len ≤ 16) ⌝ }
+    ensures { λ r. ⌜ r ≡ neighbourOf (replyIn (firstAtOrAbove (now (k .entry))) (entriesOf x)) ⌝ }
 {
     if !is_key(k) {
         return refusal(3);
@@ -71,7 +72,7 @@ pub fn first_at_or_above_sound(x: Index, k: &[u8]) -> Neighbour
 
 pub fn last_at_or_below_sound(x: Index, k: &[u8]) -> Neighbour
     requires { ⌜ IsSound (entriesOf x) ⌝ }
-    ensures { λ r. ⌜ Answers (lastAtOrBelow (now (k .entry))) (entriesOf x) (neighbourReply r) × (r .len ≤ 16) ⌝ }
+    ensures { λ r. ⌜ r ≡ neighbourOf (replyIn (lastAtOrBelow (now (k .entry))) (entriesOf x)) ⌝ }
 {
     if !is_key(k) {
         return refusal(3);
@@ -91,7 +92,7 @@ pub fn last_at_or_below_sound(x: Index, k: &[u8]) -> Neighbour
 }
 
 pub fn first_at_or_above(x: Index, k: &[u8]) -> Neighbour
-    ensures { λ r. ⌜ Answers (firstAtOrAbove (now (k .entry))) (entriesOf x) (neighbourReply r) × (r .len ≤ 16) ⌝ }
+    ensures { λ r. ⌜ r ≡ neighbourOf (replyIn (firstAtOrAbove (now (k .entry))) (entriesOf x)) ⌝ }
 {
     let l = radix::list(x);
     if !l.ok {
@@ -101,7 +102,7 @@ pub fn first_at_or_above(x: Index, k: &[u8]) -> Neighbour
 }
 
 pub fn last_at_or_below(x: Index, k: &[u8]) -> Neighbour
-    ensures { λ r. ⌜ Answers (lastAtOrBelow (now (k .entry))) (entriesOf x) (neighbourReply r) × (r .len ≤ 16) ⌝ }
+    ensures { λ r. ⌜ r ≡ neighbourOf (replyIn (lastAtOrBelow (now (k .entry))) (entriesOf x)) ⌝ }
 {
     let l = radix::list(x);
     if !l.ok {

@@ -7,6 +7,7 @@ pub use adjoining::first_at_or_above;
 pub use adjoining::first_at_or_above_sound;
 pub use adjoining::last_at_or_below;
 pub use adjoining::last_at_or_below_sound;
+use keys::Answer;
 pub use operation::empty;
 pub use operation::find;
 pub use operation::find_sound;
@@ -16,32 +17,8 @@ pub use operation::remove;
 pub use operation::remove_sound;
 use radix::Index;
 
-// What an operation answers.
-pub enum Answer {
-    Done,
-    Removed(u32),
-    Held(u32),
-    Absent,
-    Refused(u32),
-}
-
 // An answer, and the record after it.
 pub struct Changed {
     pub answer: Answer,
     pub index: Index,
-}
-
-// Whether a key has a neighbour.
-pub enum Outcome {
-    Found,
-    Nothing,
-    Refused(u32),
-}
-
-// The neighbour of a key, where one was found: the first len bytes of key, and its value.
-pub struct Neighbour {
-    pub outcome: Outcome,
-    pub len: usize,
-    pub value: u32,
-    pub key: [u8; 16],
 }

@@ -5,13 +5,15 @@ ghost use mathlib.Core.List.{[]};
 ghost use mathlib.Core.Option.{some};
 ghost use Prim.Native.Nat.{_+_, _≤_};
 ghost use lib.ListN.{length};
-ghost use Rattle.keys.specs.Operation.{put, remove, find, operate};
+ghost use Rattle.keys.specs.Operation.{put, remove, find, replyIn};
 ghost use Rattle.radix.specs.Record.{entriesOf};
+ghost use Rattle.radix.specs.Layout.{recordOf};
 ghost use Rattle.keys.specs.Table.{tabled};
-ghost use Rattle.index.specs.Answer.{replyOf};
-ghost use Rattle.index.specs.Promise.{Answers, Shows, Changes, IsSound};
-use crate::Answer;
+ghost use Rattle.keys.specs.Answer.{replyOf};
+ghost use Rattle.index.specs.Promise.{Changes};
+ghost use Rattle.keys.specs.Listing.{IsSound};
 use crate::Changed;
+use keys::Answer;
 use keys::Table;
 use keys::is_key;
 use keys::is_row;
@@ -24,7 +26,7 @@ use radix::Index;
 
 // The record of no entries.
 pub fn empty() -> Index
-    ensures { λ r. ⌜ entriesOf r ≡ some [] ⌝ }
+    ensures { λ r. ⌜ (r ≡ recordOf []) × (entriesOf r ≡ some []) ⌝ }
 {
     radix::build(no_rows())
 }
@@ -32,7 +34,7 @@ pub fn empty() -> Index
 // Put, where the table t has the entries of the record x.
 fn put_in(x: Index, t: Table, k: &[u8], v: u32) -> Changed
     requires { ⌜ entriesOf x ≡ some (tabled t) ⌝ }
-    ensures { λ r. ⌜ Shows (operate (put (now (k .entry)) v) (tabled t)) x (replyOf (r .answer)) (r .index) ⌝ }
+    ensures { λ r. ⌜ Changes (put (now (k .entry)) v) (some (tabled t)) x (replyOf (r .answer)) (r .index) ⌝ }
 {
     if !is_key(k) {
         return Changed {
@@ -65,7 +67,7 @@ fn put_in(x: Index, t: Table, k: &[u8], v: u32) -> Changed
 // Remove, where the table t has the entries of the record x.
 fn remove_in(x: Index, t: Table, k: &[u8]) -> Changed
     requires { ⌜ entriesOf x ≡ some (tabled t) ⌝ }
-    ensures { λ r. ⌜ Shows (operate (remove (now (k .entry))) (tabled t)) x (replyOf (r .answer)) (r .index) ⌝ }
+    ensures { λ r. ⌜ Changes (remove (now (k .entry))) (some (tabled t)) x (replyOf (r .answer)) (r .index) ⌝ }
 {
     if !is_key(k) {
         return Changed {
@@ -138,7 +140,7 @@ pub fn remove_sound(x: Index, k: &[u8]) -> Changed
 
 pub fn find_sound(x: Index, k: &[u8]) -> Answer
     requires { ⌜ IsSound (entriesOf x) ⌝ }
-    ensures { λ r. ⌜ Answers (find (now (k .entry))) (entriesOf x) (replyOf r) ⌝ }
+    ensures { λ r. ⌜ replyOf r ≡ replyIn (find (now (k .entry))) (entriesOf x) ⌝ }
 {
     if !is_key(k) {
         return Answer::Refused(3);
@@ -163,7 +165,7 @@ pub fn find_sound(x: Index, k: &[u8]) -> Answer
 
 // The value of a key, if it is held.
 pub fn find(x: Index, k: &[u8]) -> Answer
-    ensures { λ r. ⌜ Answers (find (now (k .entry))) (entriesOf x) (replyOf r) ⌝ }
+    ensures { λ r. ⌜ replyOf r ≡ replyIn (find (now (k .entry))) (entriesOf x) ⌝ }
 {
     let l = radix::list(x);
     if !l.ok {

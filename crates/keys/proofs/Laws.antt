@@ -13,6 +13,8 @@ pub use Rattle.keys.proofs.Maps.{lookup-append, lookup-none, or-none, l
 pub use Rattle.keys.proofs.Nearest.{FirstAt, first-at, first-none, none-first, LastAt, last-at, last-none, none-last, keys-held}
 -- every operation on a map leaves a map
 pub use Rattle.keys.proofs.Kept.{map-insert, map-without, Small, AllSmall, operate-map, operations-map, reads-after, full-not, put-below-64}
+-- what is asked of a key and of what is none, and what the answers say
+pub use Rattle.keys.proofs.Answers.{find-refused, find-reply, first-refused, first-reply, last-refused, last-reply, found-reply, entry-reply, sound-some}
 -- a key's place among the rows of a table
 pub use Rattle.keys.proofs.Positions.{rank-held, rank-most}
 pub use Rattle.keys.proofs.Rows.{length-rows, row-added, rows-first, rows-none, rows-take, rows-drop, rows-get, rows-same}

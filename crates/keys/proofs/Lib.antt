@@ -8,5 +8,6 @@ pub mod Maps
 pub mod Positions
 pub mod Nearest
 pub mod Kept
+pub mod Answers
 pub mod Rows
 pub mod Placing

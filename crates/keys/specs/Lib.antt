@@ -1,6 +1,8 @@
 -- Read in this order.
 pub mod Entries
 pub mod Operation
+pub mod Answer
 -- rows of a table, as the code has them
 pub mod Table
+pub mod Listing
 pub mod Rank

@@ -1,9 +1,9 @@
 -- The operations of an index and what each answers (01, The index and Refusal numbers). Assumes nothing.
-use mathlib.Core.Bool.{Bool, true, false}
+use mathlib.Core.Bool.{Bool, true, false, not}
 use mathlib.Core.List.{List, [], _∷_}
 use mathlib.Core.Option.{Option, some, none}
 use Prim.Native.Nat.{ℕ}
-use lib.Dec.{leb}
+use lib.Dec.{leb, eqb}
 use lib.ListN.{length}
 use Rattle.octets.specs.Pick.{pick, both}
 use Rattle.octets.specs.Maybe.{isNone}
@@ -58,7 +58,35 @@ operate (find k) es = keyed k es (stays es (valueReply (lookup k es)))
 operate (firstAtOrAbove k) es = keyed k es (stays es (entryReply (firstFrom k es)))
 operate (lastAtOrBelow k) es = keyed k es (stays es (entryReply (lastUpTo k es)))
 
--- what changes no entry
+-- what an index answers that holds the entries e: 2, where it holds none
+abbrev pub replyIn : Operation → Option (List Entry) → Reply
+replyIn o none = refused 2
+replyIn o (some es) = operate o es .reply
+
+-- the entries after it
+abbrev pub entriesAfter : Operation → Option (List Entry) → Option (List Entry)
+entriesAfter o none = none
+entriesAfter o (some es) = some (operate o es .after)
+
+-- 01's number of a reply: the refusal's, 32 for none, else 0
+abbrev pub codeOf : Reply → ℕ
+codeOf (refused n) = n
+codeOf done = 0
+codeOf (removed n) = 0
+codeOf (value v) = 0
+codeOf (found e) = 0
+codeOf nothing = 32
+
+-- whether the entries changed
+abbrev pub isChange : Reply → Bool
+isChange (refused n) = false
+isChange done = true
+isChange (removed n) = not (eqb n 0)
+isChange (value v) = false
+isChange (found e) = false
+isChange nothing = false
+
+-- operations that change nothing
 abbrev pub onlyReads : Operation → Bool
 onlyReads (put k v) = false
 onlyReads (remove k) = false

@@ -19,3 +19,33 @@ pub struct Table {
     pub val: [u32; 64],
     pub key: [u8; 1024],
 }
+
+// The entries of an index, where ok says that it holds any; else no rows.
+pub struct Listed {
+    pub ok: bool,
+    pub table: Table,
+}
+
+// What an operation answers.
+pub enum Answer {
+    Done,
+    Removed(u32),
+    Held(u32),
+    Absent,
+    Refused(u32),
+}
+
+// Whether a key has a neighbour.
+pub enum Outcome {
+    Found,
+    Nothing,
+    Refused(u32),
+}
+
+// The neighbour of a key, where one was found: the first len bytes of key, and its value; else zeros.
+pub struct Neighbour {
+    pub outcome: Outcome,
+    pub len: usize,
+    pub value: u32,
+    pub key: [u8; 16],
+}

@@ -10,7 +10,7 @@ use Rattle.octets.specs.Pick.{pick, both}
 use Rattle.keys.specs.Entries.{Entry, isMap}
 use Rattle.radix.specs.Shape.{Shape, nil, node, ownEntry, entriesIn, longer, prefixOf, branch, childrenOf, shape, nodes, nodeCount, startsWith, pathOf, pathLength}
 use Rattle.radix.specs.Canon.{isNil, isEnd, isHeld}
-use Rattle.radix.proofs.Under.{under, remainders, entries-node}
+use Rattle.radix.proofs.Under.{under, remainders, entries-node, length-under}
 use Rattle.keys.proofs.Laws.{map-length}
 use Rattle.radix.proofs.Rules.{Rules, leaf, only, oneOf, Some, length-some}
 use Rattle.radix.proofs.Back.{shape-back, shape-rules}
@@ -20,10 +20,6 @@ keys s = length (entriesIn [] s)
 
 ownKeys : Option ℕ → ℕ
 ownKeys v = length (ownEntry [] v)
-
-length-under : (l : List ℕ) (es : List Entry) → length (under l es) ≡ length es
-length-under l [] = refl
-length-under l (e ∷ es) = ap suc (length-under l es)
 
 keys-node : (l : List ℕ) (v : Option ℕ) (below later : Shape) → keys (node l v below later) ≡ ownKeys v + keys below + keys later
 unfolding keys ownKeys
@@ -100,10 +96,10 @@ pub count-none : nodeCount [] ≡ 1
 unfolding nodeCount nodes shape childrenOf branch prefixOf longer
 count-none = refl
 
-pub count-most : (es : List Entry) → isMap es ≡ true → nodeCount es ≤ 254
+pub nodes-suffice : (es : List Entry) → isMap es ≡ true → nodeCount es ≤ 254
 unfolding nodeCount
-count-most [] m = omega (arith, count-none)
-count-most (e ∷ es) m = omega (arith, shape-nodes (e ∷ es) m (omega arith), map-length (e ∷ es) m)
+nodes-suffice [] m = omega (arith, count-none)
+nodes-suffice (e ∷ es) m = omega (arith, shape-nodes (e ∷ es) m (omega arith), map-length (e ∷ es) m)
 
 -- each node on a path takes a byte of the key at least
 path-step : (a : ℕ) (l k : List ℕ) (t : Bool) (x y : List (List ℕ)) → startsWith (a ∷ l) k ≡ t

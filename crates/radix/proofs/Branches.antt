@@ -13,15 +13,11 @@ use Rattle.octets.specs.Pick.{pick, both}
 use Rattle.keys.specs.Entries.{Entry, entry, rising, allAbove}
 use Rattle.radix.specs.Shape.{firstByte, prefixOf, cut, longer, own, ownEntry}
 use Rattle.radix.specs.Layout.{alike, group, stretch, ownFirst, afterOwn, firstKey}
-use Rattle.radix.proofs.Under.{under, cut-under, prefix-cut}
+use Rattle.radix.proofs.Under.{under, cut-under, prefix-cut, length-under}
 use Rattle.radix.proofs.Keys.{StartsAt, From}
 use Rattle.keys.proofs.Laws.{Short, rising-left, rising-tail}
 use Rattle.radix.proofs.Sorted.{part, rising-under, above-from, longer-some, own-longer}
-use Rattle.radix.proofs.Rules.{Some, some-length, prefix-some}
-
-pub under-length : (l : List ℕ) (es : List Entry) → length (under l es) ≡ length es
-under-length l [] = refl
-under-length l (e ∷ es) = ap suc (under-length l es)
+use Rattle.radix.proofs.Rules.{Some, some-length, prefix-some, length-some}
 
 alike-none : (b : ℕ) (es : List Entry) → From (suc b) es → alike b es ≡ 0
 unfolding alike
@@ -72,7 +68,7 @@ module _ (es : List Entry) (g : Grouped es) where
 
   front-size : length front ≡ group es
   unfolding front
-  front-size = under-length (g .b ∷ []) (g .inside) ∙ sym (g .size)
+  front-size = length-under (g .b ∷ []) (g .inside) ∙ sym (g .size)
 
   pub group-take : take (group es) es ≡ under (g .b ∷ []) (g .inside)
   unfolding front
@@ -127,10 +123,6 @@ pub none-left : (l : List Entry) → length l ≡ 0 → l ≡ []
 none-left [] h = refl
 none-left (x ∷ l) h = absurd (omega arith)
 
-pub some-of : (es : List Entry) → 1 ≤ length es → Some es
-some-of [] h = absurd (omega arith)
-some-of (e ∷ es) h = tt
-
 unfoldable pub by-prefix : (es : List Entry) (g : Grouped es) → rising es ≡ true → group es ≡ length es → Branch true es
 by-prefix es g r e =
     let p = prefixOf es in
@@ -144,7 +136,7 @@ by-prefix es g r e =
       rest = xs;
       size = sym (ap (λ (t : Bool). pick t (length p) 1) (eq-eqb (group es) (length es) e));
       taken = ap (λ (k : ℕ). take k es) e ∙ take-length es ∙ c;
-      held = some-of xs (omega (arith, ap length c, under-length p xs, group-some es g, e));
+      held = length-some xs (omega (arith, ap length c, length-under p xs, group-some es g, e));
       rises = sym (rising-under p xs) ∙ ap rising (sym c) ∙ r;
       long = omega arith;
     }

@@ -18,7 +18,7 @@ use Rattle.radix.specs.Rows.{restAt, Ready}
 use Rattle.radix.proofs.Keys.{From}
 use Rattle.keys.proofs.Laws.{map-length, map-rising, map-fit, length-rows}
 use Rattle.radix.proofs.Fits.{fit-from}
-use Rattle.radix.proofs.Bounds.{count-most}
+use Rattle.radix.proofs.Bounds.{nodes-suffice}
 use Rattle.radix.proofs.Laying.{from-long}
 use Rattle.radix.proofs.Sprouts.{shape-sprout}
 use Rattle.radix.proofs.Growing.{link-is}
@@ -30,7 +30,7 @@ cut-zero (e ∷ es) = ap (λ (z : List Entry). e ∷ z) (cut-zero es)
 
 pub nodes-most : (es : List Entry) → isMap es ≡ true → nodes (shape es) ≤ 253
 unfolding nodeCount
-nodes-most es m = omega (arith, count-most es m)
+nodes-most es m = omega (arith, nodes-suffice es m)
 
 module _ (t : Columns) (n : ℕ) (m : isMap (rowsFrom t 0 n) ≡ true) where
   all-rows : restAt t 0 0 n ≡ rowsFrom t 0 n

@@ -10,12 +10,12 @@ use lib.Dec.{leb}
 use lib.ListN.{length}
 use Rattle.radix.specs.declared.Index.{Index}
 use Rattle.keys.specs.Entries.{Entry, isMap, rising, allFit}
-use Rattle.radix.specs.Shape.{Shape, nil, node, shape, nodes, nodeCount}
+use Rattle.radix.specs.Shape.{Shape, nil, node, shape, nodes}
 use Rattle.radix.specs.Record.{treeOf, isPlaced, heldIn, entriesOf, entries-is}
 use Rattle.radix.specs.Gathering.{withOwn, gathered}
 use Rattle.radix.specs.Layout.{placeShape, recordOf, record-is}
 use Rattle.keys.proofs.Laws.{map-length, map-rising, map-fit}
-use Rattle.radix.proofs.Bounds.{shape-nodes, count-most}
+use Rattle.radix.proofs.Bounds.{shape-nodes}
 use Rattle.radix.proofs.Whole.{need-some, bind-some, shape-held, held-map}
 use Rattle.radix.proofs.Built.{nodes-most}
 use Rattle.radix.proofs.Cells.{Labels}
@@ -28,6 +28,7 @@ pub use Rattle.radix.proofs.Labels.{after-all, after-keep, before-all, 
 pub use Rattle.radix.proofs.Rules.{Rules, Some, canonical-rules, end-held, held-entries, leaf, oneOf, only, rules-from, rules-some, some-under}
 pub use Rattle.radix.proofs.Turns.{Turn, find-below, find-fits, find-next, find-none, find-own, laid-on, leads-on, leads-to, nil-leads, starts-all, starts-next, starts-short, starts-stop, tree-end, tree-nil, tree-node, tree-not, tree-out}
 pub use Rattle.radix.proofs.Back.{shape-back, shape-canonical}
+pub use Rattle.radix.proofs.Bounds.{nodes-suffice}
 -- find by a walk is lookup, and the rows of a record's tree
 pub use Rattle.radix.proofs.Lookups.{shape-find}
 pub use Rattle.radix.proofs.Whole.{shape-gathered}
@@ -93,6 +94,3 @@ pub nodes-bound : (x : Index) (es : List Entry) → entriesOf x ≡ some es → 
 nodes-bound x es e l =
     let h = holds x es e in
     omega (arith, ap nodes (h .tree), shape-nodes es (h .map) l)
-
-pub nodes-suffice : (es : List Entry) → isMap es ≡ true → nodeCount es ≤ 254
-nodes-suffice = count-most

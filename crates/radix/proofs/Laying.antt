@@ -113,11 +113,6 @@ before-same : (x : ℕ) (a b : List ℕ) → comesBefore (x ∷ a) (x ∷ b) ≡
 unfolding orderOf
 before-same x a b h = rw (le-ltb x x (omega arith)) at h
 
-common-nil : (l : List ℕ) → common l [] ≡ []
-unfolding common
-common-nil [] = refl
-common-nil (x ∷ l) = refl
-
 common-self : (l : List ℕ) → common l l ≡ l
 unfolding common
 common-self [] = refl

@@ -8,7 +8,7 @@ use native.Mathlib.Omega.{arith}
 use borrow.Author.Tests.{ne-eqb, lt-ltb, le-ltb}
 use lib.ListN.{getD, set}
 use Rattle.octets.specs.Maybe.{_>>=_}
-use Rattle.radix.specs.Answer.{ifSo}
+use Rattle.keys.specs.Listing.{ifSo}
 use Rattle.radix.specs.Record.{marksFrom}
 
 module _ (child next : List ℕ) where

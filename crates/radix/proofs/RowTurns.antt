@@ -1,5 +1,5 @@
 -- One turn of each loop over the rows of a table. Assumes nothing.
-use mathlib.Core.Path.{_≡_, refl, ap, _∙_}
+use mathlib.Core.Path.{_≡_, ap, _∙_}
 use mathlib.Core.List.{List, [], _∷_}
 use Prim.Native.Nat.{ℕ, suc, _+_, _*_, _-_, _≤_, _<_}
 use native.Mathlib.Omega.{arith}
@@ -10,6 +10,7 @@ use Rattle.octets.specs.Place.{area}
 use Rattle.octets.proofs.Laws.{area-none}
 use Rattle.radix.specs.Shape.{common}
 use Rattle.radix.specs.Rows.{alikeAt}
+use Rattle.radix.proofs.Under.{common-nil}
 
 pub area-next : (a : List ℕ) (at n j : ℕ) → at + n ≤ length a → j < n → area (at + j) (n - j) a ≡ getD a (at + j) 0 ∷ area (at + (j + 1)) (n - (j + 1)) a
 unfolding area
@@ -21,11 +22,6 @@ area-next a at n j h m =
 
 area-empty : (a : List ℕ) (at n : ℕ) → n ≡ 0 → area at n a ≡ []
 area-empty a at n e = ap (λ (m : ℕ). area at m a) e ∙ area-none at a
-
-common-nil : (l : List ℕ) → common l [] ≡ []
-unfolding common
-common-nil [] = refl
-common-nil (x ∷ l) = refl
 
 -- bytes that two rows share
 module _ (a : List ℕ) (p m q k j : ℕ) (h : p + m ≤ length a) (g : q + k ≤ length a) where

@@ -12,14 +12,14 @@ use Rattle.keys.specs.Entries.{Entry, rising, isMap}
 use Rattle.radix.specs.Shape.{Shape, nil, node, prefixOf, ownEntry, entriesIn, shape}
 use Rattle.radix.specs.Canon.{isNil}
 use Rattle.radix.specs.Layout.{group, stretch, ownFirst, afterOwn, sproutNode, sprout}
-use Rattle.radix.proofs.Under.{under, remainders, entries-node, prefix-cut}
+use Rattle.radix.proofs.Under.{under, remainders, entries-node, prefix-cut, length-under}
 use Rattle.radix.proofs.Keys.{StartsAt, From, short-under}
 use Rattle.keys.proofs.Laws.{Short, keys-left, keys-right, rising-right, map-rising, map-length, map-fit}
 use Rattle.radix.proofs.Fits.{fit-from, fit-short}
-use Rattle.radix.proofs.Rules.{leaf, only, oneOf, Some, some-held, rules-canonical}
+use Rattle.radix.proofs.Rules.{leaf, only, oneOf, Some, some-held, rules-canonical, length-some}
 use Rattle.radix.proofs.Back.{Good, prefix-end, past-prefix}
 use Rattle.radix.proofs.Unique.{shape-of-canonical}
-use Rattle.radix.proofs.Branches.{Grouped, grouped, group-take, group-drop, group-sum, group-some, Branch, by-byte, by-prefix, branch-rest, branch-label, own-after, after-from, after-rising, after-short, after-length, under-length, none-left, some-of}
+use Rattle.radix.proofs.Branches.{Grouped, grouped, group-take, group-drop, group-sum, group-some, Branch, by-byte, by-prefix, branch-rest, branch-label, own-after, after-from, after-rising, after-short, after-length, none-left}
 
 -- the node of a group, from what is made of its rest and of the later entries
 module _ (go : Bool → List Entry → Shape) {first : Bool} {es : List Entry} (g : Grouped es) (w : Branch first es)
@@ -117,7 +117,7 @@ module _ (f s least : ℕ) (es : List Entry) (g : Grouped es) (r : rising es ≡
   unfolding P
   below w =
       let q = short-rest s (w .label) (w .rest) (w .long) (w .held) (subst (Short s) (w .taken) (keys-left P (take (group es) es) (g .later) (subst (Short s) parts h))) in
-      let c = ap length (w .taken) ∙ under-length (w .label) (w .rest) in
+      let c = ap length (w .taken) ∙ length-under (w .label) (w .rest) in
       ih (s - 1) true 0 (afterOwn (w .rest)) (after-rising (w .rest) (w .rises)) (after-short (s - 1) (w .rest) (q .1)) (after-from (w .rest) (w .rises))
       (omega (arith, after-length (w .rest), q .0, ap length parts, length-append (take (group es) es) (g .later))) (λ e. refl)
 
@@ -135,7 +135,7 @@ module _ (f s least : ℕ) (es : List Entry) (g : Grouped es) (r : rising es ≡
   sprouted false t e z p = byte-good (sprout f) false least es g r refl lowest refl (below (by-byte false es g r refl)) later
   sprouted true false e z p =
       byte-good (sprout f) true least es g r e lowest
-      (sprout-some f false (g .later) p (some-of (g .later) (let c : group es ≡ length es → ⊥ = eqb-false (group es) (length es) e in omega (arith, group-sum es g)))) (below (by-byte true es g r e)) later
+      (sprout-some f false (g .later) p (length-some (g .later) (let c : group es ≡ length es → ⊥ = eqb-false (group es) (length es) e in omega (arith, group-sum es g)))) (below (by-byte true es g r e)) later
   sprouted true true e z p =
       let q = eqb-true (group es) (length es) e in
       let w = by-prefix es g r q in

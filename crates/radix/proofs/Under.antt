@@ -3,7 +3,7 @@ use mathlib.Core.Path.{_≡_, refl, sym, ap, ap₂, _∙_}
 use mathlib.Core.Bool.{Bool, true, false}
 use mathlib.Core.List.{List, [], _∷_, _++_, append-assoc, append-nil}
 use mathlib.Core.Option.{Option, some, none}
-use Prim.Native.Nat.{ℕ}
+use Prim.Native.Nat.{ℕ, suc}
 use lib.Dec.{eqb}
 use lib.ListN.{length}
 use lib.Seq.{drop-append-seam}
@@ -27,6 +27,10 @@ under-under a b (e ∷ es) = ap₂ (λ (k : List ℕ) (z : List Entry). entry k 
 pub under-nil : (es : List Entry) → under [] es ≡ es
 under-nil [] = refl
 under-nil (e ∷ es) = ap (λ (z : List Entry). e ∷ z) (under-nil es)
+
+pub length-under : (l : List ℕ) (es : List Entry) → length (under l es) ≡ length es
+length-under l [] = refl
+length-under l (e ∷ es) = ap suc (length-under l es)
 
 pub under-own : (l k : List ℕ) (v : Option ℕ) → ownEntry (l ++ k) v ≡ under l (ownEntry k v)
 under-own l k none = refl
@@ -86,6 +90,11 @@ common-right (x ∷ a) (y ∷ b) = go (eqb x y) refl (common-right a b)
     go : (t : Bool) → eqb x y ≡ t → ((r : List ℕ) × (b ≡ common a b ++ r)) → (r : List ℕ) × (y ∷ b ≡ pick t (x ∷ common a b) [] ++ r)
     go true q (r, e) = (r, ap₂ (λ (c : ℕ) (z : List ℕ). c ∷ z) (sym (eqb-true x y q)) e)
     go false q h = (y ∷ b, refl)
+
+pub common-nil : (l : List ℕ) → common l [] ≡ []
+unfolding common
+common-nil [] = refl
+common-nil (x ∷ l) = refl
 
 common-same : (l a b : List ℕ) → common (l ++ a) (l ++ b) ≡ l ++ common a b
 unfolding common

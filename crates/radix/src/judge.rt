@@ -6,7 +6,7 @@ ghost use Prim.Native.Nat.{ℕ, _<_};
 ghost use lib.ListN.{length, getD};
 ghost use Rattle.radix.specs.Canon.{areSeveral, isOnly, isOneOf, rules};
 ghost use Rattle.radix.specs.Record.{Nodes, leadsOn, lent, labelOf, valueOf, treeAt, ruleAt, marksFrom, isFree, isFlag, isTidy, isPlace, areClean};
-ghost use Rattle.radix.specs.Answer.{ifSo};
+ghost use Rattle.keys.specs.Listing.{ifSo};
 use crate::pool::byte_at;
 use crate::pool::first_byte;
 use crate::pool::label_len;

@@ -9,7 +9,6 @@ mod validation;
 
 pub use construction::build;
 pub use judge::leads;
-use keys::Table;
 pub use pool::byte_at;
 pub use pool::label_len;
 pub use pool::link_at;
@@ -39,10 +38,4 @@ pub enum Found {
 pub enum Gathered {
     Rows(usize),
     TooMany,
-}
-
-// The entries of a record, where ok says that it holds any.
-pub struct Listed {
-    pub ok: bool,
-    pub table: Table,
 }

@@ -7,10 +7,10 @@ ghost use Prim.Native.Nat.{ℕ, _<_};
 ghost use lib.ListN.{getD};
 ghost use Rattle.radix.specs.Record.{lent, isRoot, isPlaced, treeOf, entriesOf};
 ghost use Rattle.radix.specs.Gathering.{gathered};
-ghost use Rattle.radix.specs.Answer.{listedOf};
+ghost use Rattle.keys.specs.Listing.{Lists};
+ghost use Rattle.keys.specs.Table.{tabled};
 use crate::Gathered;
 use crate::Index;
-use crate::Listed;
 use crate::gather::gather;
 use crate::judge::clean;
 use crate::judge::keeps;
@@ -18,6 +18,7 @@ use crate::judge::mark;
 use crate::pool::byte_at;
 use crate::pool::link_at;
 use crate::pool::wide_link;
+use keys::Listed;
 use keys::Table;
 
 // The root's place: no label, no key, no sibling.
@@ -54,22 +55,18 @@ pub fn placed(x: Index) -> bool
     clean(&x.len, &x.key, &x.child, &x.next, &x.val, &x.label, &marks)
 }
 
+// A listing of no rows.
 fn unlisted() -> Listed
-    ensures { λ r. ⌜ r .ok ≡ false ⌝ }
+    ensures { λ r. ⌜ (r .ok ≡ false) × ((tabled (r .table) ≡ []) × (r .table .n ≡ 0)) ⌝ }
 {
-    let table = Table {
-        n: 0,
-        len: [0; 64],
-        val: [0; 64],
-        key: [0; 1024],
-    };
+    let table = keys::no_rows();
     Listed { ok: false, table }
 }
 
 // The entries of a record's tree, where they fit a table.
 pub fn table_of(x: Index) -> Listed
     requires { ⌜ x .root < 256 ⌝ }
-    ensures { λ r. ⌜ listedOf r ≡ gathered [] (treeOf x) [] ⌝ }
+    ensures { λ r. ⌜ Lists (gathered [] (treeOf x) []) r ⌝ }
 {
     let root = wide_link(x.root);
     let first = link_at(&x.child, root);
@@ -100,7 +97,7 @@ pub fn table_of(x: Index) -> Listed
 
 // The entries of a record.
 pub fn list(x: Index) -> Listed
-    ensures { λ r. ⌜ listedOf r ≡ entriesOf x ⌝ }
+    ensures { λ r. ⌜ Lists (entriesOf x) r ⌝ }
 {
     if !placed(x) {
         return unlisted();

@@ -17,7 +17,8 @@ use Rattle.radix.specs.Shape.{Shape, nil, node}
 use Rattle.radix.specs.Record.{Nodes, leadsOn, labelOf, valueOf, treeAt}
 use Rattle.keys.specs.Table.{lengthOf}
 use Rattle.radix.specs.Walk.{ownOf, leastIn, greatestIn}
-use Rattle.radix_walk.specs.Neighbours.{padded, nearAt, nearOf, cutKey, alone, leastFrom, greatestFrom}
+use Rattle.keys.specs.Answer.{padded}
+use Rattle.radix_walk.specs.Neighbours.{nearAt, nearOf, cutKey, alone, leastFrom, greatestFrom}
 use Rattle.radix_walk.specs.declared.near.Stop.{Stop}
 use Rattle.radix.proofs.Laws.{leads-to, tree-node, tree-not, nil-leads}
 

@@ -1,21 +1,18 @@
 -- The neighbours of a key as the code answers them, and where its walks stop. Assumes nothing.
 use mathlib.Core.Bool.{true, false}
 use mathlib.Core.Path.{_≡_}
-use mathlib.Core.List.{List, [], _++_}
+use mathlib.Core.List.{List, []}
 use mathlib.Core.Option.{Option, some, none}
-use Prim.Native.Nat.{ℕ, _-_, _≤_}
+use Prim.Native.Nat.{ℕ, _≤_}
 use lib.ListN.{length, take}
 use Rattle.octets.specs.Bytes.{zeros}
+use Rattle.keys.specs.Answer.{padded}
 use Rattle.keys.specs.Entries.{Entry, entry}
 use Rattle.radix.specs.Shape.{Shape, nil, node}
 use Rattle.radix.specs.Record.{Nodes, lent, treeAt}
 use Rattle.radix.specs.Walk.{leastIn, greatestIn, firstIn, lastIn}
 use Rattle.radix_walk.specs.declared.near.Near.{Near}
 use Rattle.radix_walk.specs.declared.near.Stop.{Stop}
-
--- zeros after a key, to 16 bytes
-abbrev pub padded : List ℕ → List ℕ
-padded k = k ++ zeros (16 - length k)
 
 abbrev pub nearAt : ℕ → ℕ → List ℕ → Near
 nearAt len value key = record { found = true; len = len; value = value; key = key }

@@ -103,8 +103,8 @@ impl fmt::Debug for Entry {
 
 /// An index that owns its record.
 ///
-/// Two are equal where their records are, byte for byte: a clone is equal to its original. Indexes of equal keys and
-/// values that were made in different ways may differ, since a node may stand at any place of the pool.
+/// Two are equal where their records are, byte for byte. Equal ones hold the same entries, but the
+/// converse does not hold: the nodes of a stored record may stand at any places.
 #[derive(Clone, PartialEq, Eq)]
 pub struct Index {
     record: Box<[u8]>,

@@ -1,10 +1,9 @@
 -- `first_at_or_above` meets its contract. Assumes nothing.
-use mathlib.Core.Path.{subst⁻¹}
+use mathlib.Core.Path.{ap, _∙_}
 use borrow.Author.Needs.{needs}
 use borrow.Author.Tests.{not-true, not-false}
-use Rattle.radix.specs.Record.{entriesOf}
-use Rattle.keys.specs.Operation.{Reply, firstAtOrAbove}
-use Rattle.index.specs.Promise.{Answers}
+use Rattle.keys.specs.Operation.{firstAtOrAbove}
+use Rattle.keys.specs.Answer.{neighbourOf}
 use Rattle.index.proofs.Steps.{answers-2, listed-sound}
 use Rattle.index.proofs.adjoining.first_at_or_above.Statement.{statement}
 use Rattle.index.proofs.adjoining.first_at_or_above.Tie as tie
@@ -17,6 +16,6 @@ first-at-or-above-spec =
     (λ c κs. search needs)
     (λ c.
     let x = c.before.before.before.before.before .args in
-    (subst⁻¹ (λ (a : Reply). Answers (firstAtOrAbove (x .k .now)) (entriesOf (x .x)) a) (c .refusal .ensures .0) (answers-2 (firstAtOrAbove (x .k .now)) (x .x) (c.before.before.before .list .result) (c.before.before.before .list .ensures) (not-true _ (c.before .if1 .taken))), c .refusal .ensures .1))
+    c .refusal .ensures ∙ ap neighbourOf (answers-2 (firstAtOrAbove (x .k .now)) (x .x) (c.before.before.before .list .result) (c.before.before.before .list .ensures) (not-true _ (c.before .if1 .taken))))
     (λ c κs. listed-sound (c.before.before.before.before .args .x) (c.before.before .list .result) (c.before.before .list .ensures) (not-false _ (c .if1 .left)))
     (λ c. search needs))

@@ -1,8 +1,11 @@
 -- `neighbour_of` meets its contract. Assumes nothing.
-use borrow.Author.Needs.{needs}
+use Rattle.index.proofs.Adjacent.{near-found, near-nothing}
 use Rattle.index.proofs.adjoining.neighbour_of.Statement.{statement}
 use Rattle.index.proofs.adjoining.neighbour_of.Tie as tie
 
 pub neighbour-of-spec : {M : Type 1} → statement M
 neighbour-of-spec =
-    tie.close (tie.spec (λ c. (rw (c .if1 .taken), search needs)) (λ c. search needs))
+    tie.close
+    (tie.spec
+    (λ c. λ e h. near-found (c.before.before .args .n) e (c .if1 .taken) h)
+    (λ c. λ e h. near-nothing (c.before.before .args .n) e (c .if1 .left) h))

@@ -3,7 +3,7 @@ use borrow.Author.Needs.{needs}
 use borrow.Author.Tests.{not-true, not-false}
 use Rattle.keys.specs.Operation.{remove}
 use Rattle.keys.specs.Table.{tabled}
-use Rattle.index.specs.Answer.{replyOf}
+use Rattle.keys.specs.Answer.{replyOf}
 use Rattle.index.proofs.Steps.{changes-2, some-listed, changes-some}
 use Rattle.index.proofs.operation.remove.Statement.{statement}
 use Rattle.index.proofs.operation.remove.Tie as tie

@@ -5,7 +5,7 @@ use native.Mathlib.Omega.{arith}
 use borrow.Author.Needs.{needs}
 use borrow.Author.Tests.{not-true, not-false}
 use Rattle.radix.specs.Record.{isPlaced}
-use Rattle.radix.proofs.Listing.{root-within, none-listed, not-placed, not-kept, is-listed}
+use Rattle.radix.proofs.Listing.{root-within, lists-none, not-placed, not-kept, is-listed}
 use Rattle.radix.proofs.validation.list.Statement.{statement}
 use Rattle.radix.proofs.validation.list.Tie as tie
 
@@ -18,16 +18,16 @@ list-spec =
     (tie.spec
     (λ c κs. search needs)
     (λ c κs. search needs)
-    (λ c. none-listed (c .unlisted .result) (c .unlisted .ensures) ∙ not-placed (c.before.before.before .args .t1) (sym (c.before.before .placed .ensures) ∙ not-true _ (c.before .if1 .taken)))
+    (λ c. lists-none _ (c .unlisted .result) (not-placed (c.before.before.before .args .t1) (sym (c.before.before .placed .ensures) ∙ not-true _ (c.before .if1 .taken))) (c .unlisted .ensures))
     (λ c κs. search needs)
     (λ c κs. omega (arith, root-within (c.before.before.before.before.before .args .t1) (on c.before.before.before), c.before.before .wide-link .ensures .0))
     (λ c κs. search needs)
     (λ c κs. search needs)
     (λ c.
     let x = c.before.before.before.before.before.before.before.before.before.before.before.before.before.before.before.before .args .t1 in
-    none-listed (c .unlisted2 .result) (c .unlisted2 .ensures)
-    ∙ not-kept x (on c.before.before.before.before.before.before.before.before.before.before.before.before.before.before) (c.before.before.before.before.before.before.before.before.before.before.before.before.before .wide-link .result) (c.before.before.before.before.before.before.before.before.before.before .link-at .result) (c.before.before.before.before.before.before.before.before.before.before.before.before.before .wide-link .ensures .0) (c.before.before.before.before.before.before.before.before.before.before .link-at .ensures .0)
-    (c.before.before .keeps .result) (c.before.before .keeps .ensures (x .val)) (not-true _ (c.before .if2 .taken)))
+    lists-none _ (c .unlisted2 .result)
+    (not-kept x (on c.before.before.before.before.before.before.before.before.before.before.before.before.before.before) (c.before.before.before.before.before.before.before.before.before.before.before.before.before .wide-link .result) (c.before.before.before.before.before.before.before.before.before.before .link-at .result) (c.before.before.before.before.before.before.before.before.before.before.before.before.before .wide-link .ensures .0) (c.before.before.before.before.before.before.before.before.before.before .link-at .ensures .0)
+    (c.before.before .keeps .result) (c.before.before .keeps .ensures (x .val)) (not-true _ (c.before .if2 .taken))) (c .unlisted2 .ensures))
     (λ c κs. root-within (c.before.before.before.before.before.before.before.before.before.before.before.before.before.before.before .args .t1) (on c.before.before.before.before.before.before.before.before.before.before.before.before.before))
     (λ c.
     let x = c.before.before.before.before.before.before.before.before.before.before.before.before.before.before.before.before .args .t1 in

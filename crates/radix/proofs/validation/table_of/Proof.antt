@@ -1,6 +1,6 @@
 -- `table_of` meets its contract. Assumes nothing.
 use mathlib.Core.List.{[]}
-use mathlib.Core.Path.{_≡_, sym, ap, _∙_}
+use mathlib.Core.Path.{_≡_, refl, sym, ap, _∙_, subst}
 use native.Mathlib.Omega.{arith}
 use borrow.Author.Needs.{needs}
 use lib.ListN.{replicate}
@@ -8,8 +8,8 @@ use Rattle.radix.specs.declared.Gathered.{Gathered}
 use Rattle.radix.specs.Record.{treeOf}
 use Rattle.keys.specs.Table.{columns}
 use Rattle.radix.specs.Gathering.{gathered}
-use Rattle.radix.specs.Answer.{rowsOf}
-use Rattle.radix.proofs.Listing.{none-listed, tree-listed}
+use Rattle.radix.specs.Answer.{rowsOf, Within}
+use Rattle.radix.proofs.Listing.{lists-none, lists-some, tree-listed}
 use Rattle.radix.proofs.validation.table_of.Statement.{statement}
 use Rattle.radix.proofs.validation.table_of.Tie as tie
 
@@ -34,5 +34,5 @@ table-of-spec =
     (λ c. search needs)
     (λ c. search needs)
     (λ c κs. search needs)
-    (λ c. none-listed (c .unlisted .result) (c .unlisted .ensures) ∙ sym (ap (λ (r : Gathered). rowsOf r (columns (c.before.before.before.before.before.before .gather .last .1 .1 .1 .1 .1 .1 .1 .1 .1 .1 .1 .0) (c.before.before.before.before.before.before .gather .last .1 .1 .1 .1 .1 .1 .1 .1 .1 .1 .1 .1 .0) (c.before.before.before.before.before.before .gather .last .1 .1 .1 .1 .1 .1 .1 .1 .1 .1 .1 .1 .1 .0))) (c.before .enum-told .given .1)) ∙ walked c.before.before.before.before.before.before)
-    (λ c. sym (ap (λ (r : Gathered). rowsOf r (columns (c.before.before.before.before.before.before .gather .last .1 .1 .1 .1 .1 .1 .1 .1 .1 .1 .1 .0) (c.before.before.before.before.before.before .gather .last .1 .1 .1 .1 .1 .1 .1 .1 .1 .1 .1 .1 .0) (c.before.before.before.before.before.before .gather .last .1 .1 .1 .1 .1 .1 .1 .1 .1 .1 .1 .1 .1 .0))) (c.before .n .given .1)) ∙ walked c.before.before.before.before.before.before))
+    (λ c. lists-none _ (c .unlisted .result) (sym (ap (λ (r : Gathered). rowsOf r (columns (c.before.before.before.before.before.before .gather .last .1 .1 .1 .1 .1 .1 .1 .1 .1 .1 .1 .0) (c.before.before.before.before.before.before .gather .last .1 .1 .1 .1 .1 .1 .1 .1 .1 .1 .1 .1 .0) (c.before.before.before.before.before.before .gather .last .1 .1 .1 .1 .1 .1 .1 .1 .1 .1 .1 .1 .1 .0))) (c.before .enum-told .given .1)) ∙ walked c.before.before.before.before.before.before) (c .unlisted .ensures))
+    (λ c. lists-some _ _ (sym (ap (λ (r : Gathered). rowsOf r (columns (c.before.before.before.before.before.before .gather .last .1 .1 .1 .1 .1 .1 .1 .1 .1 .1 .1 .0) (c.before.before.before.before.before.before .gather .last .1 .1 .1 .1 .1 .1 .1 .1 .1 .1 .1 .1 .0) (c.before.before.before.before.before.before .gather .last .1 .1 .1 .1 .1 .1 .1 .1 .1 .1 .1 .1 .1 .0))) (c.before .n .given .1)) ∙ walked c.before.before.before.before.before.before) refl (subst Within (c.before .n .given .1) (c.before.before.before.before.before.before .gather .ensures .1))))

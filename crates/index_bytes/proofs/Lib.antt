@@ -1,0 +1,3 @@
+-- Laws is what callers cite.
+pub mod Laws
+pub mod Settling

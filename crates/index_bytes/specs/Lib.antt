@@ -1,0 +1,3 @@
+-- Read in this order, after Entries, Operation and Answer of the crate keys.
+pub mod Held
+pub mod Promise
