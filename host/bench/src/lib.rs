@@ -1,5 +1,7 @@
-//! The proved listpack reader and writers and the proved node, and plain Rust ones to measure them against.
+//! The proved listpack reader and writers the proved node and the proved groups, and plain Rust ones to measure them against.
 
 pub mod plain;
+pub mod plain_groups;
 pub mod plain_node;
 pub mod proved;
+pub mod proved_groups;

@@ -10,6 +10,7 @@ use std::time::{Duration, Instant};
 use bench::{plain, proved};
 use wallathi_model::rng::Rng;
 
+mod groups;
 mod nodes;
 
 const ROOM: usize = 4_096;
@@ -81,6 +82,7 @@ fn mixed() -> Vec<u8> {
 fn tasks() -> Vec<Task> {
     let mut tasks = listpack_tasks();
     tasks.extend(nodes::tasks());
+    tasks.extend(groups::tasks());
     tasks
 }
 

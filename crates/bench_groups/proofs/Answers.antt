@@ -1,0 +1,144 @@
+-- What each function answers, return by return. Assumes nothing.
+use mathlib.Core.Path.{_≡_, refl, ap, _∙_}
+use mathlib.Core.Bool.{true, false, not}
+use mathlib.Core.List.{List}
+use Prim.Native.Nat.{ℕ, _+_, _≤_, _<_}
+use native.Mathlib.Omega.{arith}
+use lib.Dec.{leb}
+use lib.ListN.{length}
+use borrow.Author.Tests.{le-leb, lt-leb, leb-true}
+use Rattle.octets.specs.Bytes.{Bytes}
+use Rattle.octets.specs.Maybe.{isNone}
+use Rattle.octets.proofs.Laws.{both-true}
+use Rattle.id.specs.declared.Id.{Id}
+use Rattle.id.specs.Id.{greatest, below}
+use Rattle.groups.specs.declared.Judged.{Judged}
+use Rattle.groups.specs.declared.Judged.the-variants.{Free, Sound, Bad}
+use Rattle.groups.specs.Bytes.{regionBytes}
+use Rattle.groups.specs.Parse.{groupIn}
+use Rattle.groups.specs.Step as step
+use Rattle.groups.specs.Answer.{judgeOf, SoundRegion}
+use Rattle.groups.specs.Area.{parseArea}
+use Rattle.groups.proofs.Laws.{judged-sound}
+use Rattle.groups_change.specs.declared.Delivery.{Delivery}
+use Rattle.groups_change.specs.declared.Claimed.{Claimed}
+use Rattle.groups_change.specs.Change.{deliverAnswer, deliverLeaves, foundCount, claimAnswer, claimedAs, claimLeaves}
+use Rattle.group_area.specs.declared.Created.{Created}
+use Rattle.group_area.specs.declared.Destroyed.{Destroyed}
+use Rattle.group_area.specs.Answer.{groupsIn, SoundArea, createOf, createdBytes, destroyOf, destroyedBytes}
+use Rattle.group_area.proofs.Laws.{judged-area}
+use Rattle.bench_groups.specs.Answer.{After, isSound, soundIn, isShort, deliveryNumber, delivers, acknowledges, claimedNumber, claims, drops, createdNumber, areaSound, creates, destroyedNumber, destroys}
+
+sound-case : (v : Judged) → isSound v ≡ true → v ≡ Sound
+sound-case Free e = absurd (let z : _≡_ {A = ℕ} 0 1 = cc in omega arith)
+sound-case Sound e = refl
+sound-case Bad e = absurd (let z : _≡_ {A = ℕ} 0 1 = cc in omega arith)
+
+pub region-sound : (s : List ℕ) → Bytes s → soundIn s ≡ true → SoundRegion s
+unfolding soundIn
+region-sound s b e = judged-sound greatest s b (sound-case (judgeOf greatest s) e) .sound
+
+pub judged-in : (v : Judged) (s : List ℕ) → v ≡ judgeOf greatest s → isSound v ≡ soundIn s
+unfolding soundIn
+judged-in v s e = ap isSound e
+
+pub area-sound : (s : List ℕ) → Bytes s → areaSound s ≡ true → SoundArea s
+unfolding areaSound
+area-sound s b e = judged-area greatest s b e
+
+pub area-judged : (s : List ℕ) → not (isNone (parseArea greatest s)) ≡ areaSound s
+unfolding areaSound
+area-judged s = refl
+
+-- names of 1 to 16 bytes
+pub short-none : (n : List ℕ) → length n < 1 → false ≡ isShort n
+unfolding isShort
+short-none n h = rw (lt-leb 1 (length n) h)
+
+pub short-some : (n : List ℕ) → 1 ≤ length n → leb (length n) 16 ≡ isShort n
+unfolding isShort
+short-some n h = rw (le-leb 1 (length n) h)
+
+pub short-is : (n : List ℕ) → isShort n ≡ true → (1 ≤ length n) × (length n ≤ 16)
+unfolding isShort
+short-is n e = let p = both-true (leb 1 (length n)) (leb (length n) 16) e in (leb-true 1 (length n) (p .0), leb-true (length n) 16 (p .1))
+
+-- an answer of a function and the bytes that it leaves
+abbrev pub Is : After → ℕ → List ℕ → Type 0
+Is a n s = (n ≡ a .answer) × (s ≡ a .bytes)
+
+module _ (c : List ℕ) (t : ℕ) (i : Id) (s : List ℕ) where
+  pub deliver-bad : soundIn s ≡ false → Is (delivers c t i s) 2 s
+  unfolding delivers
+  deliver-bad e = (rw e, rw e)
+
+  module _ (e : soundIn s ≡ true) where
+    pub deliver-name : isShort c ≡ false → Is (delivers c t i s) 3 s
+    unfolding delivers
+    deliver-name f = (rw (e, f), rw (e, f))
+
+    module _ (f : isShort c ≡ true) where
+      pub deliver-old : below (groupIn s .delivered) i ≡ false → Is (delivers c t i s) 4 s
+      unfolding delivers
+      deliver-old b = (rw (e, f, b), rw (e, f, b))
+
+      pub deliver-by : below (groupIn s .delivered) i ≡ true → (d : Delivery) → d ≡ deliverAnswer c (groupIn s)
+          → Is (delivers c t i s) (deliveryNumber d) (deliverLeaves d s (regionBytes (step.deliver c t i (groupIn s))))
+      unfolding delivers
+      deliver-by b d q = (rw (e, f, b, q), rw (e, f, b, q))
+
+module _ (i : Id) (s : List ℕ) where
+  pub acknowledge-bad : soundIn s ≡ false → Is (acknowledges i s) 2 s
+  unfolding acknowledges
+  acknowledge-bad e = (rw e, rw e)
+
+  pub acknowledge-by : soundIn s ≡ true → Is (acknowledges i s) (foundCount (step.findPending i (groupIn s .pending))) (regionBytes (step.acknowledge i (groupIn s)))
+  unfolding acknowledges
+  acknowledge-by e = (rw e, rw e)
+
+module _ (c : List ℕ) (least : ℕ) (i : Id) (t : ℕ) (s : List ℕ) where
+  pub claim-bad : soundIn s ≡ false → Is (claims c least i t s) 2 s
+  unfolding claims
+  claim-bad e = (rw e, rw e)
+
+  module _ (e : soundIn s ≡ true) where
+    pub claim-name : isShort c ≡ false → Is (claims c least i t s) 3 s
+    unfolding claims
+    claim-name f = (rw (e, f), rw (e, f))
+
+    pub claim-by : isShort c ≡ true → (d : Claimed) → d ≡ claimAnswer c least i t (groupIn s)
+        → Is (claims c least i t s) (claimedNumber d) (claimLeaves d s (regionBytes (claimedAs c t (groupIn s) (step.findPending i (groupIn s .pending)))))
+    unfolding claims
+    claim-by f d q = (rw (e, f, q), rw (e, f, q))
+
+module _ (c s : List ℕ) where
+  pub drop-bad : soundIn s ≡ false → Is (drops c s) 0 s
+  unfolding drops
+  drop-bad e = (rw e, rw e)
+
+  pub drop-by : soundIn s ≡ true → Is (drops c s) (1 + length (step.pendingOf c (groupIn s .pending))) (regionBytes (step.dropConsumer c (groupIn s)))
+  unfolding drops
+  drop-by e = (rw e, rw e)
+
+module _ (n : List ℕ) (start : Id) (s : List ℕ) where
+  pub create-bad : areaSound s ≡ false → Is (creates n start s) 2 s
+  unfolding creates
+  create-bad e = (rw e, rw e)
+
+  module _ (e : areaSound s ≡ true) where
+    pub create-name : isShort n ≡ false → Is (creates n start s) 3 s
+    unfolding creates
+    create-name f = (rw (e, f), rw (e, f))
+
+    pub create-by : isShort n ≡ true → (d : Created) → d ≡ createOf n (groupsIn s) → Is (creates n start s) (createdNumber d) (createdBytes d n start s)
+    unfolding creates
+    create-by f d q = (rw (e, f, q), rw (e, f, q))
+
+module _ (n s : List ℕ) where
+  pub destroy-bad : areaSound s ≡ false → Is (destroys n s) 2 s
+  unfolding destroys
+  destroy-bad e = (rw e, rw e)
+
+  pub destroy-by : areaSound s ≡ true → (d : Destroyed) → d ≡ destroyOf n (groupsIn s) → Is (destroys n s) (destroyedNumber d) (destroyedBytes d n s)
+  unfolding destroys
+  destroy-by e d q = (rw (e, q), rw (e, q))
