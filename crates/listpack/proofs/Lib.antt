@@ -17,3 +17,5 @@ pub mod Walks
 pub mod AtPlace
 pub mod Writes
 pub mod Examples
+pub mod There
+pub mod Lying

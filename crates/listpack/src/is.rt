@@ -9,7 +9,7 @@ use crate::read::read_element;
 use decimal::Recognised;
 
 // The string is the integer's text.
-fn integer_is(p: u64, x: &[u8]) -> bool
+pub fn integer_is(p: u64, x: &[u8]) -> bool
     ensures { λ r. ⌜ r ≡ same (textOf p) (now (x .entry)) ⌝ }
 {
     let found = decimal::recognise(x);
