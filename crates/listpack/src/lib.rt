@@ -30,6 +30,7 @@ pub use size::element_size;
 pub use size::integer_size;
 pub use strict::long_integer;
 pub use strict::long_size;
+pub use strict::names_end;
 pub use strict::strings_end;
 pub use write::write_integer;
 pub use write::write_string;

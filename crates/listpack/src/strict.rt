@@ -4,12 +4,15 @@ ghost use mathlib.Core.Path.{_≡_};
 ghost use Prim.Native.Nat.{_+_, _≤_, _<_};
 ghost use lib.ListN.{length, getD, drop};
 ghost use Rattle.listpack.specs.Read.{readElement, readWide};
-ghost use Rattle.listpack.specs.AtPlace.{sizeAt, patternIn, longSize, stringAt, endAfter};
+ghost use Rattle.listpack.specs.AtPlace.{longSize, stringSize, stringSizeAt, endAfter};
+ghost use Rattle.listpack.specs.Known.{patternIn};
+use crate::Element;
 use crate::form::HALF_SHORT;
 use crate::form::back_size;
 use crate::form::extend;
 use crate::read::integer_stands;
 use crate::read::is_text;
+use crate::read::read_element;
 use crate::read::text_stands;
 use crate::read::wide_value;
 
@@ -95,7 +98,7 @@ pub fn long_size(b: u64) -> usize
 // A text of 0 to 63 bytes.
 fn short_text_size(s: &[u8], at: usize, b: u64) -> usize
     requires { ⌜ (at + 2 ≤ length (now s)) × (b ≡ getD (now s) at 0) × (128 ≤ b) × (b < 192) ⌝ }
-    ensures { λ r. ⌜ r ≡ stringAt (now (s .entry)) at ⌝ }
+    ensures { λ r. ⌜ r ≡ stringSizeAt (now (s .entry)) at ⌝ }
 {
     let n = 1 + (b - 128) as usize;
     if s.len() - at <= n {
@@ -115,7 +118,7 @@ fn short_text_size(s: &[u8], at: usize, b: u64) -> usize
 // A text of 64 bytes or more.
 fn long_text_size(s: &[u8], at: usize, b: u64) -> usize
     requires { ⌜ (at + 2 ≤ length (now s)) × (b ≡ getD (now s) at 0) × (224 ≤ b) × (b < 240) ⌝ }
-    ensures { λ r. ⌜ r ≡ stringAt (now (s .entry)) at ⌝ }
+    ensures { λ r. ⌜ r ≡ stringSizeAt (now (s .entry)) at ⌝ }
 {
     let l = (256 * (b - 224) + octets::wide(s[at + 1])) as usize;
     if 1000 < l {
@@ -131,7 +134,7 @@ fn long_text_size(s: &[u8], at: usize, b: u64) -> usize
 // A string whose first byte is 128 or above.
 fn long_string_size(s: &[u8], at: usize, b: u64) -> usize
     requires { ⌜ (at + 2 ≤ length (now s)) × (b ≡ getD (now s) at 0) × (128 ≤ b) × (b < 256) ⌝ }
-    ensures { λ r. ⌜ r ≡ stringAt (now (s .entry)) at ⌝ }
+    ensures { λ r. ⌜ r ≡ stringSizeAt (now (s .entry)) at ⌝ }
 {
     if b < 192 {
         return short_text_size(s, at, b);
@@ -153,7 +156,7 @@ fn long_string_size(s: &[u8], at: usize, b: u64) -> usize
 
 // A string, which has at most 1,000 bytes. Small integers are the most frequent ones, so they come first.
 fn string_size(s: &[u8], at: usize) -> usize
-    ensures { λ r. ⌜ r ≡ stringAt (now (s .entry)) at ⌝ }
+    ensures { λ r. ⌜ r ≡ stringSizeAt (now (s .entry)) at ⌝ }
 {
     if s.len() < 2 {
         return 0;
@@ -179,6 +182,45 @@ pub fn strings_end(s: &[u8], from: usize, n: usize) -> usize
     let mut k = n;
     while 0 < k {
         let size = string_size(s, at);
+        if size == 0 {
+            return 0;
+        }
+        at += size;
+        k -= 1;
+    }
+    at
+}
+
+fn string_of(e: Element) -> usize
+    ensures { λ r. ⌜ r ≡ stringSize e ⌝ }
+{
+    match e {
+        Element::Integer { pattern: _, size } => size,
+        Element::Text {
+            start: _,
+            len,
+            size,
+        } => {
+            if 1000 < len {
+                return 0;
+            }
+            size
+        }
+        Element::Bad => 0,
+    }
+}
+
+// The same for strings that are read once, as a master's names: apart, so that the compiler puts the other into the one walk that calls it.
+pub fn names_end(s: &[u8], from: usize, n: usize) -> usize
+    ensures { λ r. ⌜ r ≡ endAfter n (now (s .entry)) from ⌝ }
+{
+    let mut at = from;
+    let mut k = n;
+    while 0 < k {
+        if s.len() < at {
+            return 0;
+        }
+        let size = string_of(read_element(&s[at..]));
         if size == 0 {
             return 0;
         }

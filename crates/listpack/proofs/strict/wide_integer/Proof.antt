@@ -5,7 +5,7 @@ use lib.ListN.{length, drop, length-drop}
 use borrow.Author.Needs.{needs}
 use denote.Ref.{now}
 use Rattle.octets.proofs.Laws.{part-rest}
-use Rattle.listpack.specs.AtPlace.{patternIn}
+use Rattle.listpack.specs.Known.{patternIn}
 use Rattle.listpack.specs.Read.{readWide}
 use Rattle.listpack.proofs.AtPlace.{wide-past, wide-stands, wide-other}
 use Rattle.listpack.proofs.strict.wide_integer.Statement.{statement}
