@@ -1,2 +1,3 @@
 -- The laws by topic. Assumes nothing.
 pub mod Slots
+pub mod Written

@@ -3,9 +3,13 @@
 ghost use mathlib.Core.Path.{_≡_};
 ghost use Rattle.id.specs.Id.{idOf};
 ghost use Rattle.bench_node.specs.Answer.{asNumber};
-ghost use Rattle.bench_node.specs.Node.{liveOf, isSound, finds, appends, appended, deletes, deleted};
+ghost use Rattle.bench_node.specs.Node.{liveOf, isSound, finds, appends, appended, deletes, deleted, readLength, readOutput, fieldLength, fieldOutput};
+ghost use lib.ListN.{length};
 use id::Id;
 use node::Judged;
+use node_read::Field;
+use node_read::Held;
+use node_read::Reading;
 
 fn is_sound(slot: &[u8], key: Id) -> bool
     ensures { λ r. ⌜ r ≡ isSound key (now (slot .entry)) ⌝ }
@@ -120,4 +124,63 @@ pub extern "C" fn wallathi_bench_delete(
         return 0;
     }
     as_number(node_delete::delete(slot, key, Id { ms, seq }))
+}
+
+// The length of the message's slip, which starts the output then; 0 where it is not live or does not fit.
+#[no_mangle]
+pub extern "C" fn wallathi_bench_read(
+    slot: &[u8],
+    key_ms: u64,
+    key_seq: u64,
+    ms: u64,
+    seq: u64,
+    out: &mut [u8],
+) -> u64
+    ensures { λ r. ⌜ (r ≡ readLength (idOf «key_ms» «key_seq») (idOf ms seq) (now (slot .entry)) (length (now (out .entry)))) × (now (out .exit) ≡ readOutput (idOf «key_ms» «key_seq») (idOf ms seq) (now (slot .entry)) (now (out .entry))) ⌝ }
+{
+    let key = Id {
+        ms: key_ms,
+        seq: key_seq,
+    };
+    if !is_sound(slot, key) {
+        return 0;
+    }
+    match node_read::read_message(slot, key, Id { ms, seq }, out) {
+        Reading::Length(n) => n as u64,
+        Reading::Short => 0,
+        Reading::Missing => 0,
+    }
+}
+
+// The length of a field's value, which starts the output then; 0 where the message is not live, lacks the field or does not fit.
+#[no_mangle]
+pub extern "C" fn wallathi_bench_field(
+    slot: &[u8],
+    key_ms: u64,
+    key_seq: u64,
+    ms: u64,
+    seq: u64,
+    name: &[u8],
+    out: &mut [u8],
+) -> u64
+    ensures { λ r. ⌜ (r ≡ fieldLength (idOf «key_ms» «key_seq») (idOf ms seq) (now (name .entry)) (now (slot .entry)) (length (now (out .entry)))) × (now (out .exit) ≡ fieldOutput (idOf «key_ms» «key_seq») (idOf ms seq) (now (name .entry)) (now (slot .entry)) (now (out .entry))) ⌝ }
+{
+    let key = Id {
+        ms: key_ms,
+        seq: key_seq,
+    };
+    if !is_sound(slot, key) {
+        return 0;
+    }
+    let Held::Pairs(q) = node_read::find_pairs(slot, key, Id { ms, seq }) else {
+        return 0;
+    };
+    let Field::At { at, len } = node_read::find_field(slot, q, name) else {
+        return 0;
+    };
+    if out.len() < len {
+        return 0;
+    }
+    node_read::write_value(slot, at, out);
+    len as u64
 }

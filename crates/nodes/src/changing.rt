@@ -6,10 +6,12 @@ ghost use mathlib.Core.Path.{_≡_};
 ghost use lib.ListN.{length};
 ghost use Rattle.node.specs.Message.{liveCount};
 ghost use Rattle.node.specs.Answer.{entriesIn, SoundSlot};
+ghost use Rattle.nodes.specs.Making.{keyAfter, slotAfter};
 
 // The key after it.
 pub fn make(slot: &mut [u8], key: Id, id: Id, slip: &[u8]) -> Id
     requires { ⌜ length (now slot) ≡ 4096 ⌝ }
+    ensures { λ r. ⌜ (r ≡ keyAfter key id (now (slip .entry))) × (now (slot .exit) ≡ slotAfter (now (slot .entry)) id (now (slip .entry))) ⌝ }
 {
     if !slip::check_slip(slip) {
         show::text(b"no slip\n");

@@ -4,6 +4,7 @@ use crate::judging::show_id;
 use id::Id;
 use node::Judged;
 use node_read::Field;
+use node_read::Held;
 use node_read::Next;
 use node_read::Reading;
 ghost use mathlib.Core.Path.{_≡_};
@@ -70,12 +71,15 @@ fn show_value(slot: &[u8], at: usize, len: usize)
 fn field(slot: &[u8], key: Id, id: Id, name: &[u8])
     requires { ⌜ SoundSlot key (now slot) ⌝ }
 {
-    let found = node_read::find_field(slot, key, id, name);
-    match found {
-        Field::Value { at, len } => show_value(slot, at, len),
-        Field::Absent => show::text(b"absent\n"),
-        Field::Missing => show::text(b"missing\n"),
-    }
+    let Held::Pairs(q) = node_read::find_pairs(slot, key, id) else {
+        show::text(b"missing\n");
+        return;
+    };
+    let Field::At { at, len } = node_read::find_field(slot, q, name) else {
+        show::text(b"absent\n");
+        return;
+    };
+    show_value(slot, at, len);
 }
 
 fn ask_sound(slot: &[u8], key: Id, letter: u8, first: Id, second: Id, s: &[u8])

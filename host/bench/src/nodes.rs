@@ -163,10 +163,49 @@ fn addition(make: Make, node: &Full) -> Task {
     }
 }
 
+/// Runs a reader into an output of its own.
+fn into_output(slot: &[u8], read: impl Fn(&[u8], &mut [u8]) -> usize + 'static) -> Run {
+    let (slot, mut out) = (slot.to_vec(), vec![0; 1_024]);
+    assert!(read(&slot, &mut out) > 0);
+    Box::new(move |times| {
+        for _ in 0..times {
+            black_box(read(black_box(&slot), black_box(&mut out)));
+        }
+    })
+}
+
+fn reading_one(node: &Full) -> Task {
+    let id = node.middle();
+    Task {
+        name: "node, read the middle one".to_string(),
+        bytes: None,
+        proved: into_output(&node.slot, move |slot, out| {
+            proved::read_message(slot, black_box(KEY), black_box(id), out)
+        }),
+        plain: into_output(&node.slot, move |slot, out| {
+            plain_node::read_message(slot, black_box(KEY), black_box(id), out)
+        }),
+    }
+}
+
+fn field_of_one(node: &Full) -> Task {
+    let id = node.middle();
+    Task {
+        name: "node, a field of the middle one".to_string(),
+        bytes: None,
+        proved: into_output(&node.slot, move |slot, out| {
+            proved::field(slot, black_box(KEY), black_box(id), black_box(b"note"), out)
+        }),
+        plain: into_output(&node.slot, move |slot, out| {
+            plain_node::field(slot, black_box(KEY), black_box(id), black_box(b"note"), out)
+        }),
+    }
+}
+
 pub fn tasks() -> Vec<Task> {
     let nodes = NODES.map(|(name, make, most_live)| (name, make, Full::new(make, most_live)));
     let mut tasks: Vec<Task> = nodes.iter().map(|(name, _, node)| judgement(name, node)).collect();
     let (_, make, node) = &nodes[0];
-    tasks.extend([addition(*make, node), search(node), deletion(node)]);
+    tasks.extend([addition(*make, node), search(node), deletion(node), reading_one(node), field_of_one(node)]);
     tasks
 }

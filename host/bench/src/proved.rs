@@ -33,6 +33,28 @@ extern "C" {
         ms: u64,
         seq: u64,
     ) -> u32;
+    fn wallathi_bench_read(
+        slot: *const u8,
+        length: usize,
+        key_ms: u64,
+        key_seq: u64,
+        ms: u64,
+        seq: u64,
+        out: *mut u8,
+        out_length: usize,
+    ) -> u64;
+    fn wallathi_bench_field(
+        slot: *const u8,
+        length: usize,
+        key_ms: u64,
+        key_seq: u64,
+        ms: u64,
+        seq: u64,
+        name: *const u8,
+        name_length: usize,
+        out: *mut u8,
+        out_length: usize,
+    ) -> u64;
 }
 
 pub fn check(bytes: &[u8]) -> bool {
@@ -84,4 +106,42 @@ pub fn append(slot: &mut [u8], key: Id, id: Id, slip: &[u8]) -> bool {
 pub fn delete(slot: &mut [u8], key: Id, id: Id) -> bool {
     // SAFETY: pointer and length are those of a slice that is lent alone.
     unsafe { wallathi_bench_delete(slot.as_mut_ptr(), slot.len(), key.ms, key.seq, id.ms, id.seq) == 1 }
+}
+
+/// The length of a live message's slip, which starts the output then; 0 where there is none or it does not fit.
+pub fn read_message(slot: &[u8], key: Id, id: Id, out: &mut [u8]) -> usize {
+    // SAFETY: pointers and lengths are those of slices, of which the last is lent alone.
+    let length = unsafe {
+        wallathi_bench_read(
+            slot.as_ptr(),
+            slot.len(),
+            key.ms,
+            key.seq,
+            id.ms,
+            id.seq,
+            out.as_mut_ptr(),
+            out.len(),
+        )
+    };
+    length as usize
+}
+
+/// The length of a field's value, which starts the output then; 0 where there is none or it does not fit.
+pub fn field(slot: &[u8], key: Id, id: Id, name: &[u8], out: &mut [u8]) -> usize {
+    // SAFETY: as above.
+    let length = unsafe {
+        wallathi_bench_field(
+            slot.as_ptr(),
+            slot.len(),
+            key.ms,
+            key.seq,
+            id.ms,
+            id.seq,
+            name.as_ptr(),
+            name.len(),
+            out.as_mut_ptr(),
+            out.len(),
+        )
+    };
+    length as usize
 }

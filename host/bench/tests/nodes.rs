@@ -43,6 +43,34 @@ fn same_find(node: &Node, slot: &[u8], id: Id) {
     assert_eq!(plain_node::find(slot, node.key(), id), live);
 }
 
+/// A reader writes what is expected at the start of an output that is as long or longer, and nothing in a shorter one.
+fn same_output(expected: Option<&[u8]>, read: &dyn Fn(&mut [u8]) -> usize) {
+    let length = expected.map_or(0, <[u8]>::len);
+    for room in [length, length + 3, length.saturating_sub(1)] {
+        let mut out = vec![7; room];
+        let mut wanted = out.clone();
+        let written = expected.filter(|bytes| bytes.len() <= room).unwrap_or(&[]);
+        wanted[..written.len()].copy_from_slice(written);
+        assert_eq!(read(&mut out), written.len());
+        assert_eq!(out, wanted);
+    }
+}
+
+fn same_reading(node: &Node, slot: &[u8], id: Id) {
+    let key = node.key();
+    let found = node.live().find(|entry| entry.id == id);
+    let whole = found.map(|entry| slip::write(&entry.pairs));
+    same_output(whole.as_deref(), &|out| proved::read_message(slot, key, id, out));
+    same_output(whole.as_deref(), &|out| plain_node::read_message(slot, key, id, out));
+    let names = found.iter().flat_map(|entry| entry.pairs.iter().map(|(name, _)| name.clone()));
+    for name in names.chain([b"no such field".to_vec()]) {
+        let value = found.and_then(|entry| entry.pairs.iter().find(|(field, _)| *field == name));
+        let value = value.map(|(_, value)| value.as_slice());
+        same_output(value, &|out| proved::field(slot, key, id, &name, out));
+        same_output(value, &|out| plain_node::field(slot, key, id, &name, out));
+    }
+}
+
 fn same_delete(node: &Node, slot: &[u8], id: Id) {
     let mut after = node.clone();
     let deleted = node.live_count() >= 2 && after.delete(id);
@@ -87,6 +115,7 @@ fn nodes_are_accepted_and_changed() {
             let id = some_id(&mut rng, &node);
             same_verdict(id, &slot);
             same_find(&node, &slot, id);
+            same_reading(&node, &slot, id);
             same_delete(&node, &slot, id);
             let pairs = some_message(&mut rng, &node);
             same_append(&node, &slot, node.greatest_id().following().expect("a following ID"), &pairs);
