@@ -9,16 +9,16 @@ use lib.ListN.{length, getD, take, drop, length-append}
 use lib.Seq.{take-at, drop-at, drop-drop, getD-drop}
 use borrow.Author.Tests.{eq-eqb, ne-eqb}
 use Rattle.octets.specs.Pick.{pick}
-use Rattle.octets.specs.Bytes.{le, zeros}
+use Rattle.octets.specs.Bytes.{Bytes, le, leValue, zeros}
 use Rattle.octets.specs.Place.{area, put}
 use Rattle.octets.specs.Compare.{same}
-use Rattle.octets.proofs.Laws.{both-true, part-area, put-none, put-append, drop-put, length-put}
+use Rattle.octets.proofs.Laws.{both-true, part-area, put-none, put-append, drop-put, length-put, area-add, length-area}
 use Rattle.groups.specs.Group.{Pending, Group, namesAbove, isPending, arePending}
 use Rattle.groups.specs.Bytes.{placeOf, pendingBytes, allPending, regionBytes}
 use Rattle.groups.specs.Parse.{groupIn}
 use Rattle.groups.specs.Step.{pendingOf, pendingOfOthers}
 use Rattle.groups.specs.Answer.{SoundRegion}
-use Rattle.groups.proofs.Laws.{Rules, entry, placed, entry-place, length-entry, length-entries, same-place, count-others, region-entries, sound-tested}
+use Rattle.groups.proofs.Laws.{Rules, number-read, entry, placed, entry-place, length-entry, length-entries, same-place, count-others, region-entries, sound-tested}
 use Rattle.groups_change.specs.Places.{rowKept, rowsOfOthers}
 use Rattle.groups_change.specs.Change.{withPending}
 use Rattle.groups_change.proofs.Shapes.{shape, region-shape, sound-rules, sound-short, sound-shape, shape-number, shape-fewer}
@@ -32,6 +32,33 @@ module _ (k at : ℕ) (s : List ℕ) (place : ℕ) (e : place ≡ getD s (at + 1
   pub row-stays : (place ≡ k → ⊥) → rowKept k (drop at s) ≡ area at 27 s
   unfolding rowKept
   row-stays h = rw (getD-drop at s 16 0, ne-eqb (getD s (at + 16) 0) k (λ q. h (e ∙ q))) (part-area at 27 s)
+
+-- a row moved by words
+module _ (s : List ℕ) (b : Bytes s) (at to : ℕ) (h : at + 27 ≤ length s) (k : to ≤ at) where
+  row-split : area at 27 s ≡ ((area at 8 s ++ area (at + 8) 8 s) ++ area (at + 16) 8 s) ++ area (at + 24) 3 s
+  row-split = area-add at 24 3 s ∙ ap (λ (l : List ℕ). l ++ area (at + 24) 3 s) (area-add at 16 8 s ∙ ap (λ (l : List ℕ). l ++ area (at + 16) 8 s) (area-add at 8 8 s))
+
+  pub row-moved : put (put (put (put s to (le 8 (leValue (area at 8 s)))) (to + 8) (le 8 (leValue (area (at + 8) 8 s)))) (to + 16) (le 8 (leValue (area (at + 16) 8 s)))) (to + 24) (le 3 (leValue (area (at + 24) 3 s)))
+      ≡ put s to (area at 27 s)
+  row-moved =
+      let x : List ℕ = area at 8 s in
+      let y : List ℕ = area (at + 8) 8 s in
+      let z : List ℕ = area (at + 16) 8 s in
+      let w : List ℕ = area (at + 24) 3 s in
+      let ex = number-read s b at 8 (omega arith) in
+      let ey = number-read s b (at + 8) 8 (omega arith) in
+      let ez = number-read s b (at + 16) 8 (omega arith) in
+      let ew = number-read s b (at + 24) 3 (omega arith) in
+      let lx : to + 8 ≡ to + length x = omega (arith, length-area at 8 s (omega arith)) in
+      let ly : to + 16 ≡ to + length (x ++ y) = omega (arith, length-append x y, length-area at 8 s (omega arith), length-area (at + 8) 8 s (omega arith)) in
+      let lz : to + 24 ≡ to + length ((x ++ y) ++ z) =
+      omega (arith, length-append (x ++ y) z, length-append x y, length-area at 8 s (omega arith), length-area (at + 8) 8 s (omega arith), length-area (at + 16) 8 s (omega arith)) in
+      let low : to ≤ length s = omega arith in
+      (λ i. put (put (put (put s to (ex i)) (lx i) (ey i)) (ly i) (ez i)) (lz i) (ew i))
+      ∙ ap (λ (l : List ℕ). put (put l (to + length (x ++ y)) z) (to + length ((x ++ y) ++ z)) w) (put-append s to x y low)
+      ∙ ap (λ (l : List ℕ). put l (to + length ((x ++ y) ++ z)) w) (put-append s to (x ++ y) z low)
+      ∙ put-append s to ((x ++ y) ++ z) w low
+      ∙ ap (put s to) (sym row-split)
 
 -- so many entries' rows, of which the first is kept or not
 rows-step : (k left at : ℕ) (s : List ℕ) → 0 < left → rowsOfOthers k left (drop at s) ≡ rowKept k (drop at s) ++ rowsOfOthers k (left - 1) (drop (at + 27) s)

@@ -5,7 +5,7 @@ ghost use mathlib.Core.List.{[]};
 ghost use Prim.Native.Nat.{_+_, _*_, _≤_, _<_};
 ghost use lib.ListN.{length, drop, getD};
 ghost use Rattle.octets.specs.Bytes.{le};
-ghost use Rattle.octets.specs.Place.{put};
+ghost use Rattle.octets.specs.Place.{area, put};
 ghost use Rattle.id.specs.Bytes.{idBytes};
 ghost use Rattle.groups.specs.Group.{mostPending};
 ghost use Rattle.groups.specs.Bytes.{regionBytes, regionSize, deliveredAt, pendingAt, entriesAt, entryBytes};
@@ -48,6 +48,21 @@ pub fn remove_entry(region: &mut [u8], i: usize)
     octets::write_le(region, PENDING_AT, 2, (n - 1) as u64);
 }
 
+// The row at a place goes to another, which is not after it. By words: a loop over 27 bytes takes twice as long.
+fn move_row(region: &mut [u8], at: usize, to: usize)
+    requires { ⌜ (at + entryBytes ≤ length (now region)) × (to ≤ at) ⌝ }
+    ensures { λ _. ⌜ now (region .exit) ≡ put (now (region .entry)) to (area at entryBytes (now (region .entry))) ⌝ }
+{
+    let a = octets::read_le(region, at, 8);
+    let b = octets::read_le(region, at + 8, 8);
+    let c = octets::read_le(region, at + 16, 8);
+    let d = octets::read_le(region, at + 24, 3);
+    octets::write_le(region, to, 8, a);
+    octets::write_le(region, to + 8, 8, b);
+    octets::write_le(region, to + 16, 8, c);
+    octets::write_le(region, to + 24, 3, d);
+}
+
 // The row at a place goes to another, which is not after it, unless it is of the consumer at place k: 1 or 0 rows.
 fn keep_row(region: &mut [u8], at: usize, to: usize, k: usize) -> usize
     requires { ⌜ (at + entryBytes ≤ length (now region)) × (to ≤ at) ⌝ }
@@ -57,7 +72,7 @@ fn keep_row(region: &mut [u8], at: usize, to: usize, k: usize) -> usize
     if place == k {
         return 0;
     }
-    octets::move_within(region, at, to, ENTRY_BYTES);
+    move_row(region, at, to);
     1
 }
 

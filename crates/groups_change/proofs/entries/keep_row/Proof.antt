@@ -32,5 +32,5 @@ keep-row-spec =
     let q = row-stays (x .k) (x .at) (x .region .now) (w .result) (w .ensures .0) (u .if1 .left) in (
       sym (ap length q ∙ length-area (x .at) 27 (x .region .now) (omega arith)),
       omega arith,
-      c .before .before .move-within .ensures ∙ ap (put (x .region .now) (x .to)) (sym q),
+      c .before .before .move-row .ensures ∙ ap (put (x .region .now) (x .to)) (sym q),
     )))
