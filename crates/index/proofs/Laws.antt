@@ -1,5 +1,5 @@
--- What callers cite of the operations: each on the entries, and every list of them. The laws of a record and its entries are in the
--- crate radix, proofs/Laws. Assumes nothing.
+-- What callers cite of the operations on a record. Their laws on entries are in the crate keys, those of a record and its entries in
+-- radix, and every list of calls in wallathi_index. Assumes nothing.
 use mathlib.Core.Bool.{true}
 use mathlib.Core.Path.{_≡_}
 use mathlib.Core.List.{List}
@@ -12,8 +12,6 @@ use Rattle.keys.proofs.Laws.{full-not, map-insert}
 use Rattle.radix.specs.Shape.{nodeCount}
 use Rattle.radix.specs.Record.{entriesOf}
 use Rattle.radix.proofs.Laws.{entries-map, nodes-suffice}
--- every list of operations
-pub use Rattle.index.proofs.Sequence.{whole, from-empty}
 
 -- below 64 keys a put is done (put-below-64), and its shape has room in the pool
 pub put-has-room : (x : Index) (es : List Entry) (k : List ℕ) (v : ℕ) → entriesOf x ≡ some es → isKey k ≡ true → v < 2 ^ 32 → length es < 64 → nodeCount (insert k v es) ≤ 254

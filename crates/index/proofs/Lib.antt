@@ -2,4 +2,3 @@
 pub mod Laws
 pub mod Steps
 pub mod Adjacent
-pub mod Sequence

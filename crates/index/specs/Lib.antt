@@ -1,3 +1,2 @@
--- Read in this order, after Entries and Operation of the crate keys, and Record of radix.
+-- To be believed, after Entries and Operation of the crate keys, and Record of radix.
 pub mod Promise
-pub mod Run

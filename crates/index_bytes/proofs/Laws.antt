@@ -3,50 +3,55 @@ use mathlib.Core.Bool.{Bool, true, false}
 use mathlib.Core.Path.{_≡_, refl, sym, ap, _∙_}
 use mathlib.Core.List.{List, [], _∷_}
 use mathlib.Core.Option.{Option, some, none}
-use Prim.Native.Nat.{ℕ, _≤_}
+use Prim.Native.Nat.{ℕ, _*_, _^_, _≤_}
 use native.Mathlib.Omega.{arith}
+use Rattle.octets.specs.Bytes.{Bytes}
 use Rattle.octets.specs.Pick.{pick}
-use Rattle.octets.specs.Compare.{comesBefore}
-use Rattle.octets.specs.Maybe.{orElse}
-use Rattle.keys.specs.Entries.{Entry, isMap, isKey, allFit, firstFrom, lastUpTo}
-use Rattle.keys.specs.Operation.{Reply, firstAtOrAbove, lastAtOrBelow, entryReply, replyIn}
+use Rattle.keys.specs.Entries.{Entry, isMap, isKey, firstFrom, lastUpTo}
+use Rattle.keys.specs.Operation.{Operation, Reply, firstAtOrAbove, lastAtOrBelow, replyIn, entriesAfter, operate, isChange}
 use Rattle.keys.specs.Answer.{neighbourOf}
-use Rattle.keys.proofs.Laws.{map-fit, key-short, fit-head, fit-tail, first-refused, first-reply, last-refused, last-reply}
-use Rattle.radix.proofs.Laws.{entries-map}
-use Rattle.radix_bytes.specs.Bytes.{recordFrom}
-use Rattle.index_bytes.specs.Held.{entriesIn, entries-in}
+use Rattle.keys.proofs.Laws.{map-fit, first-refused, first-reply, last-refused, last-reply, Keys, Small, operate-map, quiet-after, none-map, entry-short, first-fits, last-fits}
+use Rattle.radix.specs.Layout.{recordOf}
+use Rattle.radix.specs.Record.{entriesOf}
+use Rattle.radix.proofs.Laws.{entries-map, record-back, AllBelow, record-fields, keys-bytes}
+use Rattle.radix_bytes.specs.Bytes.{bytesOf, recordFrom, Fit}
+use Rattle.radix_bytes.proofs.Laws.{record-again, label-bytes}
+use Rattle.index_bytes.specs.Held.{entriesIn, entries-in, recordBytes, record-bytes}
+use Rattle.index_bytes.specs.Promise.{bytesAfter}
 
 -- what bytes hold is a map: at most 64 keys, rising, each of 1 to 16 bytes, with values of 32 bits
 pub held-map : (s : List ℕ) (es : List Entry) → entriesIn s ≡ some es → isMap es ≡ true
 held-map s es e = entries-map (recordFrom s) es (sym (entries-in s) ∙ e)
 
--- an entry's key, where there is one
-abbrev KeyIs : Option Entry → Type 0
-KeyIs none = Unit {0}
-KeyIs (some e) = isKey (e .key) ≡ true
+-- the bytes that are written for a map hold it
+fits : (w : ℕ) (vs : List ℕ) → AllBelow (2 ^ (8 * w)) vs → Fit w vs
+fits w [] h = tt
+fits w (v ∷ vs) h = (h .0, fits w vs (h .1))
 
-first-fits : (k : List ℕ) (es : List Entry) → allFit es ≡ true → KeyIs (firstFrom k es)
-unfolding firstFrom
-first-fits k [] h = tt
-first-fits k (e ∷ es) h = go (comesBefore (e .key) k) (first-fits k es (fit-tail e es h))
+pub record-holds : (es : List Entry) → isMap es ≡ true → entriesIn (recordBytes es) ≡ some es
+record-holds es m =
+    let f = record-fields es m in
+    let again = record-again (recordOf es) (f .root) (f .len) (f .key) (f .child) (fits 2 (recordOf es .child) (f .child-fit)) (f .next) (fits 2 (recordOf es .next) (f .next-fit)) (f .val) (fits 4 (recordOf es .val) (f .val-fit)) (f .label) in
+    ap entriesIn (record-bytes es) ∙ entries-in (bytesOf (recordOf es)) ∙ ap entriesOf again ∙ record-back es m
+
+pub empty-holds : entriesIn (recordBytes []) ≡ some []
+empty-holds = record-holds [] (none-map [] refl)
+
+-- what the bytes after an operation hold
+pub after-holds : (o : Operation) (s : List ℕ) → Small o → entriesIn (bytesAfter o (entriesIn s) s) ≡ entriesAfter o (entriesIn s)
+after-holds o s h = go (entriesIn s) refl
   where
-    go : (t : Bool) → KeyIs (firstFrom k es) → KeyIs (pick t (firstFrom k es) (some e))
-    go true ih = ih
-    go false ih = fit-head e es h
+    either : (es : List Entry) → entriesIn s ≡ some es → (b : Bool) → isChange (operate o es .reply) ≡ b → entriesIn (pick b (recordBytes (operate o es .after)) s) ≡ some (operate o es .after)
+    either es q true e = record-holds (operate o es .after) (operate-map o es h (held-map s es q))
+    either es q false e = q ∙ ap some (sym (quiet-after o es e))
 
-last-fits : (k : List ℕ) (es : List Entry) → allFit es ≡ true → KeyIs (lastUpTo k es)
-unfolding lastUpTo
-last-fits k [] h = tt
-last-fits k (e ∷ es) h = go (comesBefore k (e .key)) (lastUpTo k es) (last-fits k es (fit-tail e es h))
-  where
-    go : (t : Bool) (o : Option Entry) → KeyIs o → KeyIs (pick t none (orElse o (some e)))
-    go true o ih = tt
-    go false none ih = fit-head e es h
-    go false (some f) ih = ih
+    go : (e : Option (List Entry)) → entriesIn s ≡ e → entriesIn (bytesAfter o e s) ≡ entriesAfter o e
+    go none q = q
+    go (some es) q = either es q (isChange (operate o es .reply)) refl
 
-entry-short : (o : Option Entry) → KeyIs o → neighbourOf (entryReply o) .len ≤ 16
-entry-short none h = omega arith
-entry-short (some e) h = key-short (e .key) h
+-- the keys in bytes are bytes
+pub held-bytes : (s : List ℕ) (es : List Entry) → Bytes s → entriesIn s ≡ some es → Keys Bytes es
+held-bytes s es h e = keys-bytes (recordFrom s) es (label-bytes s h) (sym (entries-in s) ∙ e)
 
 -- a neighbour's key has at most 16 bytes
 pub first-short : (k s : List ℕ) → neighbourOf (replyIn (firstAtOrAbove k) (entriesIn s)) .len ≤ 16

@@ -13,7 +13,7 @@ use Rattle.octets.specs.Maybe.{isNone}
 use Rattle.octets.specs.Compare.{same, comesBefore}
 use Rattle.octets.proofs.Laws.{both-false}
 use Rattle.keys.specs.Entries.{Entry, entry, mostKeys, isKey, allFit, isMap, lookup, has, insert, without}
-use Rattle.keys.specs.Operation.{Operation, put, remove, find, firstAtOrAbove, lastAtOrBelow, Reply, refused, done, onlyReads, stays, keyed, Replied, putTo, removeFrom, operate, operateAll}
+use Rattle.keys.specs.Operation.{Operation, put, remove, find, firstAtOrAbove, lastAtOrBelow, Reply, refused, done, onlyReads, stays, keyed, Replied, putTo, removeFrom, operate, operateAll, isChange, codeOf, removed, value, found, nothing}
 use Rattle.keys.proofs.Sorted.{both-left, both-right}
 use Rattle.keys.proofs.Fits.{is-map, map-length, map-rising, map-fit}
 use Rattle.keys.proofs.Maps.{heldIn, rising-insert, rising-without}
@@ -128,3 +128,33 @@ pub put-below-64 : (k : List ℕ) (v : ℕ) (es : List Entry) → isKey k ≡ tr
 unfolding putTo
 put-below-64 k v es p l =
     rw (p, full-not k es l)
+
+-- an operation that answers no change leaves the entries
+pub quiet-after : (o : Operation) (es : List Entry) → isChange (operate o es .reply) ≡ false → operate o es .after ≡ es
+unfolding putTo removeFrom
+quiet-after (put k v) es h = go (isKey k) (both (isNone (lookup k es)) (leb mostKeys (length es))) h
+  where
+    go : (t u : Bool) → isChange (pick t (pick u (stays es (refused 18)) (record { reply = done; after = insert k v es })) (stays es (refused 3)) .reply) ≡ false
+        → pick t (pick u (stays es (refused 18)) (record { reply = done; after = insert k v es })) (stays es (refused 3)) .after ≡ es
+    go false u h = refl
+    go true true h = refl
+    go true false h = absurd (true≢false h)
+quiet-after (remove k) es h = go (isKey k) (has k es) h
+  where
+    go : (t u : Bool) → isChange (pick t (pick u (record { reply = removed 1; after = without k es }) (stays es (removed 0))) (stays es (refused 3)) .reply) ≡ false
+        → pick t (pick u (record { reply = removed 1; after = without k es }) (stays es (removed 0))) (stays es (refused 3)) .after ≡ es
+    go false u h = refl
+    go true false h = refl
+    go true true h = absurd (true≢false h)
+quiet-after (find k) es h = reads-after (find k) es refl
+quiet-after (firstAtOrAbove k) es h = reads-after (firstAtOrAbove k) es refl
+quiet-after (lastAtOrBelow k) es h = reads-after (lastAtOrBelow k) es refl
+
+-- what changes the entries answers 0
+pub change-code : (r : Reply) → isChange r ≡ true → codeOf r ≡ 0
+change-code (refused n) h = absurd (true≢false (sym h))
+change-code done h = refl
+change-code (removed n) h = refl
+change-code (value v) h = refl
+change-code (found e) h = refl
+change-code nothing h = absurd (true≢false (sym h))

@@ -11,3 +11,5 @@ pub mod Kept
 pub mod Answers
 pub mod Rows
 pub mod Placing
+pub mod Members
+pub mod Ids

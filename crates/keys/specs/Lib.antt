@@ -6,3 +6,5 @@ pub mod Answer
 pub mod Table
 pub mod Listing
 pub mod Rank
+-- keys that are IDs
+pub mod Ids

@@ -1,20 +1,24 @@
 -- What callers cite of a record and its entries. Assumes nothing.
+use Rattle.octets.proofs.Laws.{bytes-nil}
+use Rattle.octets.specs.Bytes.{Bytes}
+use Rattle.radix.proofs.KeyBytes.{tree-bytes, entries-bytes}
+use Rattle.radix.proofs.Fields.{fields-of}
 use mathlib.Core.Bool.{true}
-use mathlib.Core.Path.{_≡_, sym, ap, _∙_}
+use mathlib.Core.Path.{_≡_, sym, ap, _∙_, subst}
 use mathlib.Core.List.{List, [], _++_}
 use mathlib.Core.Option.{some, Option·some-injective}
 use Prim.Native.Nat.{ℕ, _+_, _*_, _≤_}
 use native.Mathlib.Omega.{arith}
 use borrow.Author.Tests.{leb-true}
 use lib.Dec.{leb}
-use lib.ListN.{length}
+use lib.ListN.{length, getD}
 use Rattle.radix.specs.declared.Index.{Index}
 use Rattle.keys.specs.Entries.{Entry, isMap, rising, allFit}
-use Rattle.radix.specs.Shape.{Shape, nil, node, shape, nodes}
-use Rattle.radix.specs.Record.{treeOf, isPlaced, heldIn, entriesOf, entries-is}
+use Rattle.radix.specs.Shape.{Shape, nil, node, shape, nodes, entriesIn}
+use Rattle.radix.specs.Record.{treeOf, isPlaced, heldIn, entriesOf, entries-is, nodesOf}
 use Rattle.radix.specs.Gathering.{withOwn, gathered}
 use Rattle.radix.specs.Layout.{placeShape, recordOf, record-is}
-use Rattle.keys.proofs.Laws.{map-length, map-rising, map-fit}
+use Rattle.keys.proofs.Laws.{map-length, map-rising, map-fit, Keys}
 use Rattle.radix.proofs.Bounds.{shape-nodes}
 use Rattle.radix.proofs.Whole.{need-some, bind-some, shape-held, held-map}
 use Rattle.radix.proofs.Built.{nodes-most}
@@ -29,6 +33,7 @@ pub use Rattle.radix.proofs.Rules.{Rules, Some, canonical-rules, end-he
 pub use Rattle.radix.proofs.Turns.{Turn, find-below, find-fits, find-next, find-none, find-own, laid-on, leads-on, leads-to, nil-leads, starts-all, starts-next, starts-short, starts-stop, tree-end, tree-nil, tree-node, tree-not, tree-out}
 pub use Rattle.radix.proofs.Back.{shape-back, shape-canonical}
 pub use Rattle.radix.proofs.Bounds.{nodes-suffice}
+pub use Rattle.radix.proofs.Fields.{AllBelow, Fields}
 -- find by a walk is lookup, and the rows of a record's tree
 pub use Rattle.radix.proofs.Lookups.{shape-find}
 pub use Rattle.radix.proofs.Whole.{shape-gathered}
@@ -94,3 +99,14 @@ pub nodes-bound : (x : Index) (es : List Entry) → entriesOf x ≡ some es → 
 nodes-bound x es e l =
     let h = holds x es e in
     omega (arith, ap nodes (h .tree), shape-nodes es (h .map) l)
+
+-- what the types of a record's fields say, of one made of a map
+pub record-fields : (es : List Entry) → isMap es ≡ true → Fields (recordOf es)
+record-fields es m = fields-of es m (labels-short [] (shape es) [] es (shape-gathered es m))
+
+-- the keys of a record whose labels are bytes are bytes
+pub keys-bytes : (x : Index) (es : List Entry) → Bytes (x .label) → entriesOf x ≡ some es → Keys Bytes es
+keys-bytes x es h e =
+    let k = holds x es e in
+    subst (Keys Bytes) (ap (entriesIn []) (k .tree) ∙ shape-back es (k .map))
+    (entries-bytes [] (treeOf x) bytes-nil (tree-bytes 256 (nodesOf x) (getD (x .child) (x .root) 0) h))

@@ -24,4 +24,6 @@ pub mod Growing
 pub mod Built
 pub mod Cells
 pub mod Readback
+pub mod Fields
+pub mod KeyBytes
 pub mod Laws

@@ -194,6 +194,10 @@ module _ (s : Shape) (l : Labels s) (h : 1 + nodes s ≤ 256) where
   unfolding pool
   done = laid-all s 1 blank blank-long h l (λ q i j. blank-cell q j)
 
+  pub pool-long : Long (laid s 1 blank)
+  unfolding pool
+  pool-long = done .long
+
   all : Nodes
   all = nodesOf (placeShape s)
 

@@ -110,6 +110,10 @@ record-typed s h l =
       label-bytes = bytes-area 2562 4096 h;
     }
 
+pub label-bytes : (s : List ℕ) → Bytes s → Bytes (recordFrom s .label)
+unfolding recordFrom
+label-bytes s h = bytes-area 2562 4096 h
+
 -- two parts
 pub put-next : (s : List ℕ) (at : ℕ) (a : List ℕ) (p : ℕ) (b : List ℕ) → at + length a ≡ p → at ≤ length s → put (put s at a) p b ≡ put s at (a ++ b)
 put-next s at a p b e h = ap (λ (i : ℕ). put (put s at a) i b) (sym e) ∙ put-append s at a b h

@@ -1,20 +1,19 @@
 -- What is told of an answer. Assumes nothing.
-use mathlib.Core.Bool.{Bool, true, false}
+use mathlib.Core.Bool.{true, false}
 use mathlib.Core.List.{List}
-use mathlib.Core.Option.{Option, some, none}
-use mathlib.Core.Path.{_≡_, refl, sym, ap, _∙_}
+use mathlib.Core.Option.{Option}
+use mathlib.Core.Path.{_≡_, sym, ap, _∙_}
 use Prim.Native.Nat.{ℕ, _<_, _≤_}
 use borrow.Author.Tests.{lt-leb, le-leb}
 use lib.Dec.{leb}
 use lib.ListN.{length, take}
 use Rattle.octets.specs.Place.{put}
-use Rattle.keys.specs.Entries.{Entry, entry, isKey, firstFrom, lastUpTo}
-use Rattle.keys.specs.Operation.{Operation, Reply, found, firstAtOrAbove, lastAtOrBelow, codeOf, replyIn}
-use Rattle.keys.specs.Answer.{outcomeReply, neighbourReply, neighbourOf}
+use Rattle.keys.specs.Entries.{Entry, entry}
+use Rattle.keys.specs.Operation.{Operation, Reply, found, codeOf}
+use Rattle.keys.specs.Answer.{outcomeReply, neighbourReply}
 use Rattle.keys.specs.declared.Outcome.{Outcome}
 use Rattle.keys.specs.declared.Outcome.the-variants.{Found}
 use Rattle.keys.specs.declared.Neighbour.{Neighbour}
-use Rattle.keys.proofs.Laws.{first-refused, first-reply, last-refused, last-reply, entry-reply}
 use Rattle.index_bytes.specs.Promise.{ChangesIn}
 use Rattle.wallathi_index.specs.Export.{Follows, Tells}
 
@@ -37,20 +36,3 @@ pub found-told : (n : Neighbour) (m : ℕ) → n .outcome ≡ Found → m ≡ n 
 found-told n m e f =
     ap (λ (i : ℕ). found (entry (take i (n .key)) (n .value))) f
     ∙ sym (ap (λ (o : Outcome). outcomeReply o (entry (take (n .len) (n .key)) (n .value))) e)
-
--- a neighbour says its reply
-pub first-told : (k : List ℕ) (e : Option (List Entry)) → neighbourReply (neighbourOf (replyIn (firstAtOrAbove k) e)) ≡ replyIn (firstAtOrAbove k) e
-first-told k none = refl
-first-told k (some es) = go (isKey k) refl
-  where
-    go : (t : Bool) → isKey k ≡ t → neighbourReply (neighbourOf (replyIn (firstAtOrAbove k) (some es))) ≡ replyIn (firstAtOrAbove k) (some es)
-    go false p = let z = first-refused k es p in ap (λ (r : Reply). neighbourReply (neighbourOf r)) z ∙ sym z
-    go true p = let z = first-reply k es p in ap (λ (r : Reply). neighbourReply (neighbourOf r)) z ∙ entry-reply (firstFrom k es) ∙ sym z
-
-pub last-told : (k : List ℕ) (e : Option (List Entry)) → neighbourReply (neighbourOf (replyIn (lastAtOrBelow k) e)) ≡ replyIn (lastAtOrBelow k) e
-last-told k none = refl
-last-told k (some es) = go (isKey k) refl
-  where
-    go : (t : Bool) → isKey k ≡ t → neighbourReply (neighbourOf (replyIn (lastAtOrBelow k) (some es))) ≡ replyIn (lastAtOrBelow k) (some es)
-    go false p = let z = last-refused k es p in ap (λ (r : Reply). neighbourReply (neighbourOf r)) z ∙ sym z
-    go true p = let z = last-reply k es p in ap (λ (r : Reply). neighbourReply (neighbourOf r)) z ∙ entry-reply (lastUpTo k es) ∙ sym z

@@ -1,1 +1,3 @@
 pub mod Exits
+-- the claims about every list of calls
+pub mod Sequence

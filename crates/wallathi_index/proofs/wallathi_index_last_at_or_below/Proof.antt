@@ -8,7 +8,7 @@ use Rattle.keys.specs.declared.Neighbour.{Neighbour}
 use Rattle.index_bytes.specs.Held.{entriesIn}
 use Rattle.index_bytes.proofs.Laws.{last-short}
 use Rattle.wallathi_index.specs.Export.{Tells}
-use Rattle.wallathi_index.proofs.Exits.{last-told}
+use Rattle.keys.proofs.Laws.{last-told}
 use Rattle.wallathi_index.proofs.wallathi_index_last_at_or_below.Statement.{statement}
 use Rattle.wallathi_index.proofs.wallathi_index_last_at_or_below.Tie as tie
 
@@ -22,7 +22,8 @@ wallathi-index-last-at-or-below-spec =
     subst⁻¹ (λ (n : Neighbour). n .len ≤ 16) (c.before.before.before .last-at-or-below .ensures) (last-short (x .key .now) (x .bytes .now)))
     (λ c. search needs)
     (λ c.
-    let x = c.before.before.before.before.before.before.before.before.before.before .args in
+    let c10 = c.before.before.before.before.before.before.before.before.before.before in
+    let x = c10 .args in
     let t = c.before.before .tell in
     let n = c.before.before.before.before.before.before .last-at-or-below in
     subst (λ (r : Reply). Tells r (x .out .now) (x .len .now) (x .value .now) (t .result) (t .last .1 .0) (t .last .1 .1 .0) (t .last .1 .1 .1 .0))

@@ -28,7 +28,11 @@ first-at-or-above-sound-spec =
     (λ c κs. search needs)
     (λ c κs. search needs)
     (λ c.
-    let s = c.before.before.before.before.before.before.before.before.before.before.before.before.before.before.before.before in
-    let q = c.before.before.before.before.before.before.before.before.before.before.before.before .wide-link in
-    let f = c.before.before.before.before.before.before.before.before.before .link-at in
-    first-is (s .args .t1) (s .args .k .now) (s .pre) (key c.before.before.before.before.before.before.before.before.before.before.before.before.before) (q .result) (f .result) (q .ensures .0) (f .ensures .0) (c.before .first-from .result) (c .neighbour-of .result) (c .neighbour-of .ensures) (c.before .first-from .ensures)))
+    let c9 = c.before.before.before.before.before.before.before.before.before in
+    let c12 = c9.before.before.before in
+    let c13 = c12.before in
+    let c16 = c13.before.before.before in
+    let s = c16 in
+    let q = c12 .wide-link in
+    let f = c9 .link-at in
+    first-is (s .args .t1) (s .args .k .now) (s .pre) (key c13) (q .result) (f .result) (q .ensures .0) (f .ensures .0) (c.before .first-from .result) (c .neighbour-of .result) (c .neighbour-of .ensures) (c.before .first-from .ensures)))

@@ -27,8 +27,16 @@ find-sound-spec =
     (λ c. search needs)
     (λ c. search needs)
     (λ c.
-    find-is (c.before.before.before.before.before.before.before.before.before.before.before.before.before.before.before.before.before.before .args .t1) (c.before.before.before.before.before.before.before.before.before.before.before.before.before.before.before.before.before.before .args .k .now) (c.before.before.before.before.before.before.before.before.before.before.before.before.before.before .wide-link .result) (c.before.before.before.before.before.before.before.before.before.before.before .link-at .result) _ (foundOf (c.before.before.before .find-from .result)) (c.before.before.before.before.before.before.before.before.before.before.before.before.before.before.before.before.before.before .pre) (key c.before.before.before.before.before.before.before.before.before.before.before.before.before.before.before)
-    (c.before.before.before.before.before.before.before.before.before.before.before.before.before.before .wide-link .ensures .0) (c.before.before.before.before.before.before.before.before.before.before.before .link-at .ensures .0) (sym (ap (λ (f : Found). valueReply (foundOf f)) (c.before .f .given .1))) (c.before.before.before .find-from .ensures))
+    let c11 = c.before.before.before.before.before.before.before.before.before.before.before in
+    let c14 = c11.before.before.before in
+    let c15 = c14.before in
+    let c18 = c15.before.before.before in
+    find-is (c18 .args .t1) (c18 .args .k .now) (c14 .wide-link .result) (c11 .link-at .result) _ (foundOf (c.before.before.before .find-from .result)) (c18 .pre) (key c15)
+    (c14 .wide-link .ensures .0) (c11 .link-at .ensures .0) (sym (ap (λ (f : Found). valueReply (foundOf f)) (c.before .f .given .1))) (c.before.before.before .find-from .ensures))
     (λ c.
-    find-is (c.before.before.before.before.before.before.before.before.before.before.before.before.before.before.before.before.before .args .t1) (c.before.before.before.before.before.before.before.before.before.before.before.before.before.before.before.before.before .args .k .now) (c.before.before.before.before.before.before.before.before.before.before.before.before.before .wide-link .result) (c.before.before.before.before.before.before.before.before.before.before .link-at .result) _ (foundOf (c.before.before .find-from .result)) (c.before.before.before.before.before.before.before.before.before.before.before.before.before.before.before.before.before .pre) (key c.before.before.before.before.before.before.before.before.before.before.before.before.before.before)
-    (c.before.before.before.before.before.before.before.before.before.before.before.before.before .wide-link .ensures .0) (c.before.before.before.before.before.before.before.before.before.before .link-at .ensures .0) (sym (ap (λ (f : Found). valueReply (foundOf f)) (c .enum-told .given .1))) (c.before.before .find-from .ensures)))
+    let c10 = c.before.before.before.before.before.before.before.before.before.before in
+    let c13 = c10.before.before.before in
+    let c14 = c13.before in
+    let c17 = c14.before.before.before in
+    find-is (c17 .args .t1) (c17 .args .k .now) (c13 .wide-link .result) (c10 .link-at .result) _ (foundOf (c.before.before .find-from .result)) (c17 .pre) (key c14)
+    (c13 .wide-link .ensures .0) (c10 .link-at .ensures .0) (sym (ap (λ (f : Found). valueReply (foundOf f)) (c .enum-told .given .1))) (c.before.before .find-from .ensures)))

@@ -25,11 +25,15 @@ to-bytes-spec =
     (λ c κs. search needs)
     (λ c κs. search needs)
     (λ c. search needs)
-    (λ c. let x = c.before.before.before.before.before.before.before.before.before.before.before.before.before.before.before.before.before.before.before.before.before.before.before.before.before.before.before.before .args .t1 in
-    let h = c.before.before.before.before.before.before.before.before.before.before.before.before.before.before.before.before.before.before.before.before .write-head .ensures in
-    let t = c.before.before.before.before.before.before.before.before.before.before.before .write-tree .ensures in
+    (λ c.
+    let c11 = c.before.before.before.before.before.before.before.before.before.before.before in
+    let c20 = c11.before.before.before.before.before.before.before.before.before in
+    let c28 = c20.before.before.before.before.before.before.before.before in
+    let x = c28 .args .t1 in
+    let h = c20 .write-head .ensures in
+    let t = c11 .write-tree .ensures in
     let v = c.before.before .write-tail .ensures in
-    let l = lengths c.before.before.before.before.before.before.before.before.before.before.before.before.before.before.before.before.before.before.before.before.before.before.before.before.before.before.before.before in
+    let l = lengths c28 in
     let e : c.before.before .write-tail .last .1 .1 .0 ≡ bytesOf x =
-    parts-written x (c.before.before.before.before.before.before.before.before.before.before.before.before.before.before.before.before.before.before.before.before.before.before.before.before.before.before.before.before .args .out .now) (c.before.before.before.before.before.before.before.before.before.before.before.before.before.before.before.before.before.before.before.before .write-head .last .1 .1 .1 .0) (c.before.before.before.before.before.before.before.before.before.before.before .write-tree .last .1 .1 .0) (c.before.before .write-tail .last .1 .1 .0) (c.before.before.before.before.before.before.before.before.before.before.before.before.before.before.before.before.before.before.before.before.before.before.before.before.before.before.before.before .pre) (l .0) (l .1 .0) (l .1 .1 .0) (l .1 .1 .1 .0) (l .1 .1 .1 .1 .0) (l .1 .1 .1 .1 .1) (h .0) (t .0) (v .0) in
+    parts-written x (c28 .args .out .now) (c20 .write-head .last .1 .1 .1 .0) (c11 .write-tree .last .1 .1 .0) (c.before.before .write-tail .last .1 .1 .0) (c28 .pre) (l .0) (l .1 .0) (l .1 .1 .0) (l .1 .1 .1 .0) (l .1 .1 .1 .1 .0) (l .1 .1 .1 .1 .1) (h .0) (t .0) (v .0) in
     (e, ap recordFrom e ∙ record-again x (h .1) (l .0) (l .1 .0) (l .1 .1 .0) (t .1 .0) (l .1 .1 .1 .0) (t .1 .1) (l .1 .1 .1 .1 .0) (v .1) (l .1 .1 .1 .1 .1))))

@@ -62,17 +62,20 @@ greatest-spec =
     (λ c. sym (long c.before.before.before.before.before))
     (λ c κs. (omega (arith, up c.before.before.before.before.before.before.before.before), long c.before.before.before.before.before, c.before.before.before.before.before .laid2 .ensures .0))
     (λ c.
+    let c11 = c.before.before.before.before.before.before.before.before.before.before.before in
     c .own-entry .ensures
-    ∙ ap nearOf (greatest-own (down c.before.before.before.before.before.before) (c.before.before.before.before .link-at .result) (c.before.before.before.before .link-at .ensures .0) (sym (c.before.before.before .leads2 .ensures) ∙ not-true _ (c.before.before .if2 .taken)) ∙ whole c.before.before.before.before.before.before.before.before.before.before.before))
+    ∙ ap nearOf (greatest-own (down c.before.before.before.before.before.before) (c.before.before.before.before .link-at .result) (c.before.before.before.before .link-at .ensures .0) (sym (c.before.before.before .leads2 .ensures) ∙ not-true _ (c.before.before .if2 .taken)) ∙ whole c11))
     (λ c. omega (arith, up c.before.before.before.before.before.before.before))
     (λ c κs. search needs)
     (λ c. omega (arith, up c.before.before.before.before.before.before.before.before, c .last-of .ensures .within))
-    (λ c. (
+    (λ c.
+    let c10 = c.before.before.before.before.before.before.before.before.before.before in
+    let c16 = c10.before.before.before.before.before.before in (
       long c.before.before.before.before.before,
       c.before.before.before.before.before .laid2 .ensures .0,
-      ap cutKey (sym (c .last-of .ensures .last (pool c.before.before.before.before.before.before.before.before.before.before.before.before.before.before.before.before) refl (take (c.before.before.before.before.before .laid2 .result) (c.before.before.before.before.before .laid2 .last .0))))
+      ap cutKey (sym (c .last-of .ensures .last (pool c16) refl (take (c.before.before.before.before.before .laid2 .result) (c.before.before.before.before.before .laid2 .last .0))))
           ∙ greatest-below (down c.before.before.before.before.before) (c.before.before.before .link-at .result) (c.before.before.before .link-at .ensures .0) (sym (c.before.before .leads2 .ensures) ∙ not-false _ (c.before .if2 .left))
-          ∙ c.before.before.before.before.before.before.before.before.before.before .loop .inv .2,
+          ∙ c10 .loop .inv .2,
     ))
     (λ c κs. search needs)
     (λ c.

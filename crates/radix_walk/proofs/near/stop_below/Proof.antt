@@ -72,8 +72,10 @@ stop-below-spec =
     (λ c. omega (arith, up c.before.before.before.before.before.before))
     (λ c. omega (arith, up c.before.before.before.before.before.before))
     (λ c.
-    let l = c.before.before.before.before.before.before.before.before .loop in
-    let x = c.before.before.before.before.before.before.before.before.before.before.before .args in (
+    let c8 = c.before.before.before.before.before.before.before.before in
+    let c11 = c8.before.before.before in
+    let l = c8 .loop in
+    let x = c11 .args in (
       fits c.before.before,
       lead-within (eqb (getD (x .key .now) (l .at - 1) 0) 0) (l .stop) (stopAt (l .at) (l .i) 1) (length (x .k .now)) (c.before .own-stop .ensures) (l .inv .1) (l .inv .0),
       λ val. last-into (met c.before.before.before.before val) (l .stop) (c .link-at2 .result) (c.before .own-stop .result) (c.before.before .enum-told2 .given .1) (c .link-at2 .ensures .0) (c.before .own-stop .ensures)
