@@ -8,11 +8,11 @@ use lib.ListN.{length, take, drop}
 use Rattle.octets.specs.Pick.{pick}
 use Rattle.octets.specs.Compare.{same, orderOf, isLess, comesBefore}
 use Rattle.octets.specs.declared.Order.the-variants.{Less, Equal, Greater}
-use Rattle.octets.proofs.Laws.{both-true, mirror, pick-by, order-equal, order-mirror, same-refl, same-true, both-of, never}
+use Rattle.octets.proofs.Laws.{both-true, mirror, pick-by, order-equal, order-mirror, same-refl, same-true, both-of, never, before-trans, before-differs}
 use Rattle.groups.specs.Group.{isName, areNames, namesAbove, isAmong}
 use Rattle.groups.specs.Bytes.{placeOf}
 use Rattle.groups.specs.Step.{withName, withoutName}
-use Rattle.groups.proofs.Names.{before-trans, same-swap, before-differs, after-differs}
+use Rattle.groups.proofs.Names.{same-swap, after-differs}
 use Rattle.groups.proofs.Orders.{by-three}
 
 -- by the order of two names

@@ -8,14 +8,14 @@ use native.Mathlib.Omega.{arith}
 use Rattle.octets.specs.Pick.{pick}
 use Rattle.octets.specs.Compare.{same, orderOf, comesBefore}
 use Rattle.octets.specs.declared.Order.the-variants.{Greater}
-use Rattle.octets.proofs.Laws.{both-true, both-of, same-refl, same-true, mirror, order-mirror}
+use Rattle.octets.proofs.Laws.{both-true, both-of, same-refl, same-true, mirror, order-mirror, before-trans}
 use Rattle.id.specs.declared.Id.{Id}
 use Rattle.id.specs.Id.{greatest, atMost}
 use Rattle.id.proofs.Laws.{at-most-greatest}
 use Rattle.groups.specs.Group.{Pending, Group, namesAbove, isAmong, isPending, arePending, pendingUpTo}
 use Rattle.groups.specs.Step.{findGroup, putGroup, withoutGroup}
 use Rattle.groups.specs.Area.{namesOf, areGroups, isGroups}
-use Rattle.groups.proofs.Names.{before-less, before-trans, after-differs}
+use Rattle.groups.proofs.Names.{before-less, after-differs}
 use Rattle.groups.proofs.Entries.{entry}
 use Rattle.groups.proofs.Rules.{rules}
 use Rattle.groups.proofs.Kept.{up-to-later}

@@ -16,7 +16,7 @@ pub use Rattle.groups.proofs.Bodies.{taken, takenNames, value-one, body
 pub use Rattle.groups.proofs.Verdicts.{region-unnamed, zero-no-field, used-not-zero, sound-tested, sound-parse, group-in, sound-region, ParsedSound, parse-sound, JudgedSound, judged-sound}
 pub use Rattle.groups.proofs.Rules.{Rules, rules, is-group}
 pub use Rattle.groups.proofs.Kept.{up-to-later, entries-with, entries-without, rules-with, withEntry, rules-entry, deliver-kept, claim-kept, acknowledge-rules, drop-rules, acknowledge-kept, drop-kept, deliver-up-to, claim-up-to, acknowledge-up-to, drop-up-to, OneConsumer, one-consumer}
-pub use Rattle.groups.proofs.Names.{Named, named, is-name, rising-above, above-rising, Placed, placed, place-getD, among-getD, before-differs, after-differs, same-swap, empty-before}
+pub use Rattle.groups.proofs.Names.{Named, named, is-name, rising-above, above-rising, Placed, placed, place-getD, among-getD, after-differs, same-swap, empty-before}
 pub use Rattle.groups.proofs.Fields.{length-field, length-fields, name-of-field, FieldRead, field-read, FieldsKept, fields-kept, FieldsRead, fields-read}
 pub use Rattle.groups.proofs.Entries.{Entry, entry, is-pending, length-entry, entry-place, length-entries, number-read, number-lt, EntriesKept, entries-kept, EntriesRead, entries-read}
 pub use Rattle.groups.proofs.Parts.{length-padded, padded-rest, padded-read, sixParts, part-delivered, part-count, part-number, part-entries, parts}

@@ -10,7 +10,7 @@ use lib.ListN.{length, take, drop}
 use Rattle.octets.specs.Pick.{pick}
 use Rattle.octets.specs.Compare.{same, orderOf, isLess, comesBefore}
 use Rattle.octets.specs.declared.Order.the-variants.{Less, Equal, Greater}
-use Rattle.octets.proofs.Laws.{order-equal, never}
+use Rattle.octets.proofs.Laws.{order-equal, never, before-differs}
 use Rattle.id.specs.declared.Id.{Id}
 use Rattle.id.specs.Id.{Fits64}
 use Rattle.groups.specs.declared.Spot.the-variants.{Known, New}
@@ -19,7 +19,7 @@ use Rattle.groups.specs.Step.{withName, withoutName, findGroup, putGroup
 use Rattle.groups.specs.Answer.{spotBy, spotFrom}
 use Rattle.groups.specs.Area.{namesOf, areGroups, isGroups}
 use Rattle.groups.proofs.Rules.{is-group, rules}
-use Rattle.groups.proofs.Names.{before-differs, after-differs, named, empty-before}
+use Rattle.groups.proofs.Names.{after-differs, named, empty-before}
 use Rattle.groups.proofs.Consumers.{with-known, by-name, greater-before, equal-same, with-equal, with-less, with-greater, above-with, above-without}
 use Rattle.groups.proofs.Groups.{First, first, joined, sound, are-sound}
 

@@ -12,7 +12,7 @@ use Rattle.octets.specs.Pick.{pick, both}
 use Rattle.octets.specs.Bytes.{Bytes}
 use Rattle.octets.specs.Compare.{same, orderOf, isLess, comesBefore}
 use Rattle.octets.specs.declared.Order.the-variants.{Less}
-use Rattle.octets.proofs.Laws.{both-true, order-refl, order-trans, same-refl, same-true, both-of, never, are-bytes, bytes-are, is-less}
+use Rattle.octets.proofs.Laws.{both-true, order-refl, order-trans, same-refl, same-true, both-of, never, are-bytes, bytes-are, is-less, before-differs}
 use Rattle.groups.specs.Group.{isName, areNames, namesAbove, risingNames, isAmong}
 use Rattle.groups.specs.Bytes.{placeOf}
 
@@ -34,15 +34,6 @@ is-name n h k b = both-of (both-of (le-leb 1 (length n) h) (le-leb (length n) 16
 pub before-less : (a b : List ℕ) → comesBefore a b ≡ true → orderOf a b ≡ Less
 before-less a b e = is-less (orderOf a b) e
 
-pub before-trans : (a b c : List ℕ) → comesBefore a b ≡ true → comesBefore b c ≡ true → comesBefore a c ≡ true
-before-trans a b c p q = ap isLess (order-trans a b c (before-less a b p) (before-less b c q))
-
--- one name is not before itself
-pub not-same : (a b : List ℕ) (t : Bool) → same a b ≡ t → comesBefore a b ≡ true → t ≡ false
-not-same a b false e h = refl
-not-same a b true e h =
-    absurd (never (subst (λ (x : List ℕ). comesBefore a x ≡ true) (sym (same-true a b e)) h) (ap isLess (order-refl a)))
-
 pub same-swap : (a b : List ℕ) (t : Bool) → same a b ≡ t → same b a ≡ t
 same-swap a b true e = rw (same-true a b e) (same-refl b)
 same-swap a b false e = go (same b a) refl
@@ -50,9 +41,6 @@ same-swap a b false e = go (same b a) refl
     go : (u : Bool) → same b a ≡ u → same b a ≡ false
     go false f = f
     go true f = absurd (never (rw (same-true b a f) (same-refl a)) e)
-
-pub before-differs : (a b : List ℕ) → comesBefore a b ≡ true → same a b ≡ false
-before-differs a b h = not-same a b (same a b) refl h
 
 pub after-differs : (a b : List ℕ) → comesBefore a b ≡ true → same b a ≡ false
 after-differs a b h = same-swap a b false (before-differs a b h)

@@ -3,7 +3,7 @@
 -- facts of every key
 pub use Rattle.keys.proofs.Every.{Keys, Short, keys-append, keys-left, keys-map, keys-right}
 -- two keys, and keys that rise
-pub use Rattle.keys.proofs.Sides.{is-false, Sides, below, equal, above, sides, before-self, before-trans, before-once, before-apart, same-swap}
+pub use Rattle.keys.proofs.Sides.{is-false, Sides, below, equal, above, sides, before-once, same-swap}
 pub use Rattle.keys.proofs.Sorted.{both-left, both-right, before-less, before-equal, before-greater, before-le, before-nil, rising-tail, rising-left, rising-right, above-rising}
 -- what isMap says
 pub use Rattle.keys.proofs.Fits.{is-map, map-length, map-rising, map-fit, key-short, fit-head, fit-tail, none-map}

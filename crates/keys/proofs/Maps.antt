@@ -7,11 +7,11 @@ use Prim.Native.Nat.{ℕ}
 use Rattle.octets.specs.Pick.{pick, both}
 use Rattle.octets.specs.Maybe.{isNone, orElse}
 use Rattle.octets.specs.Compare.{same, comesBefore}
-use Rattle.octets.proofs.Laws.{same-true, same-refl}
+use Rattle.octets.proofs.Laws.{same-true, same-refl, before-trans, before-differs}
 use Rattle.keys.specs.Entries.{Entry, entry, allAbove, rising, lookup, has, insert, without}
 use Rattle.keys.proofs.Every.{Keys, keys-map}
 use Rattle.keys.proofs.Sorted.{both-left, both-right, rising-tail}
-use Rattle.keys.proofs.Sides.{Sides, below, equal, above, sides, before-trans, before-apart}
+use Rattle.keys.proofs.Sides.{Sides, below, equal, above, sides}
 
 pub lookup-append : (k : List ℕ) (xs ys : List Entry) → lookup k (xs ++ ys) ≡ orElse (lookup k xs) (lookup k ys)
 unfolding lookup
@@ -102,7 +102,7 @@ above-keys k (e ∷ es) h =
 
 pub above-absent : (k : List ℕ) (es : List Entry) → allAbove k es ≡ true → lookup k es ≡ none
 above-absent k es h =
-    lookup-none k es (keys-map (λ (x : List ℕ). comesBefore k x ≡ true) (λ (x : List ℕ). same k x ≡ false) (before-apart k) es (above-keys k es h))
+    lookup-none k es (keys-map (λ (x : List ℕ). comesBefore k x ≡ true) (λ (x : List ℕ). same k x ≡ false) (before-differs k) es (above-keys k es h))
 
 -- find after remove
 pub lookup-without : (k : List ℕ) (es : List Entry) → rising es ≡ true → lookup k (without k es) ≡ none

@@ -6,12 +6,12 @@ use mathlib.Core.Option.{some, Option·some-injective, Option·none-ne-some}
 use Prim.Native.Nat.{ℕ}
 use Rattle.octets.specs.Pick.{pick}
 use Rattle.octets.specs.Compare.{same, comesBefore}
-use Rattle.octets.proofs.Laws.{same-true, same-refl}
+use Rattle.octets.proofs.Laws.{same-true, same-refl, before-differs}
 use Rattle.keys.specs.Entries.{Entry, entry, isKey, rising, lookup, has, insert, without}
 use Rattle.keys.specs.Operation.{put, remove, putTo, removeFrom, operate}
 use Rattle.keys.proofs.Every.{Keys}
 use Rattle.keys.proofs.Sorted.{rising-tail}
-use Rattle.keys.proofs.Sides.{before-once, before-apart, same-swap}
+use Rattle.keys.proofs.Sides.{before-once, same-swap}
 use Rattle.keys.proofs.Maps.{insert-after, lookup-same, lookup-other, above-keys, without-same}
 use Rattle.keys.proofs.Positions.{without-new}
 use Rattle.keys.proofs.Placing.{no-room}
@@ -42,7 +42,7 @@ pub insert-last : (k : List ℕ) (v : ℕ) (es : List Entry) → Keys (λ (x : L
 unfolding insert
 insert-last k v [] h = refl
 insert-last k v (e ∷ es) h =
-    insert-after k v e es (same-swap (e .key) k (before-apart (e .key) k (h .0))) (before-once (e .key) k (h .0))
+    insert-after k v e es (same-swap (e .key) k (before-differs (e .key) k (h .0))) (before-once (e .key) k (h .0))
     ∙ ap (λ (z : List Entry). e ∷ z) (insert-last k v es (h .1))
 
 -- without the first key: the others
@@ -74,7 +74,7 @@ pub member-found : {e : Entry} {es : List Entry} → rising es ≡ true → Memb
 unfolding rising
 member-found {e} r (here {es}) = lookup-same (e .key) e es (same-refl (e .key))
 member-found {e} r (there {f} {es} m) =
-    lookup-other (e .key) f es (same-swap (f .key) (e .key) (before-apart (f .key) (e .key) (member-key (λ (x : List ℕ). comesBefore (f .key) x ≡ true) (above-keys (f .key) es r) m)))
+    lookup-other (e .key) f es (same-swap (f .key) (e .key) (before-differs (f .key) (e .key) (member-key (λ (x : List ℕ). comesBefore (f .key) x ≡ true) (above-keys (f .key) es r) m)))
     ∙ member-found (rising-tail (f .key) es r) m
 
 -- what put and remove leave

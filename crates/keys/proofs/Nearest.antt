@@ -8,11 +8,11 @@ use Prim.Native.Nat.{ℕ}
 use Rattle.octets.specs.Pick.{pick, both}
 use Rattle.octets.specs.Maybe.{orElse}
 use Rattle.octets.specs.Compare.{same, comesBefore}
-use Rattle.octets.proofs.Laws.{same-true, same-refl}
+use Rattle.octets.proofs.Laws.{same-true, same-refl, before-self, before-differs}
 use Rattle.keys.specs.Entries.{Entry, allAbove, rising, lookup, firstFrom, lastUpTo}
 use Rattle.keys.proofs.Every.{Keys}
 use Rattle.keys.proofs.Sorted.{rising-tail}
-use Rattle.keys.proofs.Sides.{before-self, before-apart, same-swap, before-once}
+use Rattle.keys.proofs.Sides.{same-swap, before-once}
 use Rattle.keys.proofs.Maps.{lookup-same, lookup-other, above-keys}
 
 -- what holds of every key holds of one that is found
@@ -40,7 +40,7 @@ later-after j w x es r h = keys-held (λ (z : List ℕ). comesBefore (x .key) z 
 
 later-held : (x e : Entry) (es : List Entry) → rising (x ∷ es) ≡ true → lookup (e .key) es ≡ some (e .value) → lookup (e .key) (x ∷ es) ≡ some (e .value)
 later-held x e es r h =
-    lookup-other (e .key) x es (same-swap (x .key) (e .key) (before-apart (x .key) (e .key) (later-after (e .key) (e .value) x es r h))) ∙ h
+    lookup-other (e .key) x es (same-swap (x .key) (e .key) (before-differs (x .key) (e .key) (later-after (e .key) (e .value) x es r h))) ∙ h
 
 first-held : (x : Entry) (es : List Entry) → lookup (x .key) (x ∷ es) ≡ some (x .value)
 first-held x es = lookup-same (x .key) x es (same-refl (x .key))

@@ -16,4 +16,4 @@ pub use Rattle.octets.proofs.Put.{put-none, put-all, length-put, part-p
 pub use Rattle.octets.proofs.Areas.{part-area, part-is, part-rest, area-drop, cut, area-cut, area-front, area-all, area-none, area-rest, length-area, getD-area, area-add, area-first, area-last, area-area, area-append-left, area-append-right, area-left, area-right, area-middle, area-zeros, area-before, area-after, area-put-part, area-put, area-put-at, area-split, put-area, drop-put-in, area-put-in, put-in, area-set-after, area-set-before}
 pub use Rattle.octets.proofs.Splices.{spliced-put, length-spliced, spliced-before, spliced-new, spliced-rest, spliced-gap, spliced-after, spliced-used}
 pub use Rattle.octets.proofs.Tested.{pick-same, never, both-true, both-of, both-false, both-end, both-assoc, zero-all, all-zero, same-refl, same-true, same-false, same-length}
-pub use Rattle.octets.proofs.Ordered.{is-less, is-equal, mirror, first, first-less, first-greater, first-equal, by-order, order-refl, order-mirror, order-equal, order-trans, order-be, order-be-alone}
+pub use Rattle.octets.proofs.Ordered.{is-less, is-equal, mirror, first, first-less, first-greater, first-equal, by-order, order-refl, order-mirror, order-equal, order-trans, order-be, order-be-alone, before-self, before-trans, before-differs}

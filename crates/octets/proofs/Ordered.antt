@@ -8,10 +8,11 @@ use lib.Dec.{ltb}
 use borrow.Author.Tests.{lt-ltb, le-ltb, ltb-true, ltb-false}
 use Rattle.octets.specs.Pick.{pick}
 use Rattle.octets.specs.Bytes.{be}
-use Rattle.octets.specs.Compare.{orderOf, isLess, isEqual}
+use Rattle.octets.specs.Compare.{orderOf, same, isLess, comesBefore, isEqual}
 use Rattle.octets.specs.declared.Order.{Order}
 use Rattle.octets.specs.declared.Order.the-variants.{Less, Equal, Greater}
 use Rattle.octets.proofs.Digits.{pow-byte}
+use Rattle.octets.proofs.Tested.{never, same-true}
 
 -- the order of the two the other way round
 abbrev pub mirror : Order → Order
@@ -132,3 +133,17 @@ order-be (suc w) a b xs ys h k =
 pub order-be-alone : (w a b : ℕ) → a < 2 ^ (8 * w) → b < 2 ^ (8 * w) → orderOf (be w a) (be w b) ≡ first a b Equal
 unfolding orderOf
 order-be-alone w a b h k = ap₂ orderOf (sym (append-nil (be w a))) (sym (append-nil (be w b))) ∙ order-be w a b [] [] h k
+
+-- the first of two comes before the second
+pub before-self : (a : List ℕ) → comesBefore a a ≡ false
+before-self a = ap isLess (order-refl a)
+
+pub before-trans : (a b c : List ℕ) → comesBefore a b ≡ true → comesBefore b c ≡ true → comesBefore a c ≡ true
+before-trans a b c p q = ap isLess (order-trans a b c (is-less (orderOf a b) p) (is-less (orderOf b c) q))
+
+pub before-differs : (a b : List ℕ) → comesBefore a b ≡ true → same a b ≡ false
+before-differs a b h = by (same a b) refl
+  where
+    by : (t : Bool) → same a b ≡ t → t ≡ false
+    by false e = refl
+    by true e = absurd (never h (ap (comesBefore a) (sym (same-true a b e)) ∙ before-self a))

@@ -9,9 +9,9 @@ use lib.Seq.{take-at}
 use Rattle.octets.specs.Compare.{orderOf, isLess, comesBefore}
 use Rattle.octets.specs.declared.Order.{Order}
 use Rattle.octets.specs.declared.Order.the-variants.{Less, Equal, Greater}
-use Rattle.octets.proofs.Laws.{mirror, by-order, first-less, first-equal, order-equal}
+use Rattle.octets.proofs.Laws.{mirror, by-order, first-less, first-equal, order-equal, before-self}
 use Rattle.radix.specs.Shape.{startsWith}
-use Rattle.keys.proofs.Laws.{before-less, before-equal, before-nil, is-false, before-self, before-once}
+use Rattle.keys.proofs.Laws.{before-less, before-equal, before-nil, is-false, before-once}
 use Rattle.radix.proofs.Laws.{before-under, starts-split, starts-append, before-keep, after-all}
 
 -- the label comes before the key, which does not start with it
