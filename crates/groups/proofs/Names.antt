@@ -12,7 +12,7 @@ use Rattle.octets.specs.Pick.{pick, both}
 use Rattle.octets.specs.Bytes.{Bytes}
 use Rattle.octets.specs.Compare.{same, orderOf, isLess, comesBefore}
 use Rattle.octets.specs.declared.Order.the-variants.{Less}
-use Rattle.octets.proofs.Laws.{both-true, order-refl, order-trans, same-refl, same-true, both-of, never, are-bytes, bytes-are, is-less, before-differs}
+use Rattle.octets.proofs.Laws.{both-true, order-refl, order-trans, same-refl, same-true, both-of, never, are-bytes, bytes-are, is-less, before-trans, before-differs}
 use Rattle.groups.specs.Group.{isName, areNames, namesAbove, risingNames, isAmong}
 use Rattle.groups.specs.Bytes.{placeOf}
 
