@@ -27,7 +27,7 @@ use Rattle.groups.specs.Bytes.{bodyBytes}
 use Rattle.groups.specs.Parse.{parseBody}
 use Rattle.groups.specs.Area.{namesOf, areGroups}
 use Rattle.groups.proofs.Laws.{body-parse, body-bytes}
-use Rattle.group_area.proofs.Laws.{first, joined, sound, are-sound}
+use Rattle.groups.proofs.Laws.{first, joined, sound, are-sound}
 use Rattle.stream.specs.Ledger.{Ledger, isLedger}
 use Rattle.stream.specs.Cut.{freshCut}
 use Rattle.stream.specs.Fresh.{cut, numberedFrom, follows, isChain}

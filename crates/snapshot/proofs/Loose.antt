@@ -22,7 +22,7 @@ use Rattle.node.proofs.Laws.{is-node, key-fits, node-parse}
 use Rattle.groups.specs.Group.{Group}
 use Rattle.groups.specs.Area.{areGroups}
 use Rattle.groups.proofs.Laws.{body-parse}
-use Rattle.group_area.proofs.Laws.{first}
+use Rattle.groups.proofs.Laws.{first}
 use Rattle.stream.specs.Cut.{Node, entriesOf, messagesOf, areNodes}
 use Rattle.stream.proofs.Laws.{first-node, messages-node}
 use Rattle.snapshot.specs.Bytes.{Part, part, nodePart, groupPart, contents, bodies, fileOf}

@@ -15,7 +15,7 @@ use Rattle.groups.specs.Group.{Group, isName, areNames, isGroup}
 use Rattle.groups.specs.Bytes.{nameBytes, allNames, bodyBytes}
 use Rattle.groups.specs.Area.{areGroups}
 use Rattle.groups.proofs.Laws.{named, rules}
-use Rattle.group_area.proofs.Laws.{first, sound}
+use Rattle.groups.proofs.Laws.{first, sound}
 use Rattle.group_body.proofs.Laws.{length-body}
 use Rattle.stream.specs.Ledger.{Ledger, isLedger}
 use Rattle.stream.specs.Cut.{Node, areNodes, freshCut}

@@ -14,7 +14,7 @@ use Rattle.octets.proofs.Laws.{needed, answered, some-is, same-refl, same-true}
 use Rattle.id.proofs.Laws.{id-fits, from-bytes-of}
 use Rattle.stream.specs.Ledger.{Ledger, isLedger}
 use Rattle.stream.specs.Cut.{freshCut, mostSlots}
-use Rattle.group_area.proofs.Laws.{sound}
+use Rattle.groups.proofs.Laws.{sound}
 use Rattle.stream.proofs.Laws.{fresh-keep, fresh-messages, ledger-rules}
 use Rattle.snapshot.specs.Bytes.{partsOf, snapshotOf}
 use Rattle.snapshot.specs.Parse.{parseFile, readLedger, parseSnapshot}
