@@ -6,7 +6,7 @@ use native.Mathlib.Omega.{arith}
 use lib.ListN.{length, set}
 use borrow.Author.Tests.{lt-ltb, le-ltb}
 use Rattle.octets.specs.Place.{put}
-use Rattle.octets.proofs.Put.{put-first, put-last, set-put}
+use Rattle.octets.proofs.Laws.{put-first, put-last, set-put}
 use Rattle.decimal.specs.Text.{textOf, naturalText}
 use Rattle.decimal.proofs.Natural.{natural-one, natural-more, length-more}
 

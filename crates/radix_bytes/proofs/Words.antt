@@ -7,7 +7,7 @@ use native.Mathlib.Omega.{arith}
 use lib.ListN.{length, drop, getD, set, length-append, drop-of-length-le}
 use Rattle.octets.specs.Bytes.{Bytes, le, leValue}
 use Rattle.octets.specs.Place.{area, put}
-use Rattle.octets.proofs.Put.{put-first}
+use Rattle.octets.proofs.Laws.{put-first}
 use Rattle.octets.proofs.Laws.{cut, length-le, value-le, le-value, value-le-lt, length-area, bytes-area, bytes-nil, bytes-append, bytes-le, area-add, area-none, area-left, area-append-right, put-append, put-none, put-all, length-put}
 use Rattle.radix_bytes.specs.Bytes.{wordBytes, wordsAt, Fit}
 
