@@ -1,5 +1,6 @@
 -- Topics.
 pub mod Table
+pub mod Rows
 pub mod Loose
 pub mod Parts
 pub mod Sizes

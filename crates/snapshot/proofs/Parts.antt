@@ -15,12 +15,8 @@ use Rattle.stream.specs.Ledger.{Ledger}
 use Rattle.stream.specs.Cut.{freshCut}
 use Rattle.stream.specs.Fresh.{cut, numberedFrom}
 use Rattle.stream.proofs.Laws.{fresh-cut}
-use Rattle.snapshot.specs.Bytes.{Part, part, nodePart, groupPart, partsOf, contents, bodies, snapshotOf}
+use Rattle.snapshot.specs.Bytes.{Part, part, cutPart, nodePart, groupPart, partsOf, contents, bodies, snapshotOf}
 use Rattle.snapshot.proofs.Table.{length-file}
-
--- a node of the cut
-abbrev pub cutPart : List Entry → Part
-cutPart es = part 2 (idBytes (keyOf es) ++ nodeBytes es)
 
 numbered-parts : (s : ℕ) (ess : List (List Entry)) → map nodePart (numberedFrom s ess) ≡ map cutPart ess
 unfolding numberedFrom

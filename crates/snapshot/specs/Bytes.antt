@@ -12,6 +12,7 @@ use Prim.Native.Nat.{ℕ, _+_, _*_}
 use lib.ListN.{length}
 use Rattle.octets.specs.Bytes.{le}
 use Rattle.id.specs.Bytes.{idBytes}
+use Rattle.node.specs.Message.{Entry}
 use Rattle.node.specs.Bytes.{keyOf, nodeBytes}
 use Rattle.groups.specs.Group.{Group}
 use Rattle.groups.specs.Bytes.{bodyBytes}
@@ -25,8 +26,11 @@ pub record Part : Type 0 where
 abbrev pub part : ℕ → List ℕ → Part
 part k b = record { kind = k; body = b }
 
+abbrev pub cutPart : List Entry → Part
+cutPart es = part 2 (idBytes (keyOf es) ++ nodeBytes es)
+
 abbrev pub nodePart : Node → Part
-nodePart n = part 2 (idBytes (keyOf (n .entries)) ++ nodeBytes (n .entries))
+nodePart n = cutPart (n .entries)
 
 abbrev pub groupPart : Group → Part
 groupPart g = part 3 (bodyBytes g)

@@ -26,6 +26,11 @@ unfoldable pub saveReply : ℕ → Ledger → Stream.Answer
 saveReply room l =
     pick (leb (length (freshCut (l .messages))) mostSlots) (writes room (snapshotOf l)) (Stream.refused 15)
 
+-- of what is held; 2, nothing is
+abbrev pub saveBy : ℕ → Option Model → Stream.Answer
+saveBy room none = Stream.refused 2
+saveBy room (some m) = saveReply room (ledgerOf m)
+
 -- ledger and fresh cut are then the file's
 abbrev pub loaded : Ledger → Model
 loaded l = modelOf (freshCut (l .messages)) l

@@ -41,6 +41,10 @@ readFile f = do
   need (leb (3 + 9 * leValue (area 1 2 f)) (length f))
   rowsLeft (leValue (area 1 2 f)) 3 (3 + 9 * leValue (area 1 2 f)) f
 
+-- the part whose row lies at a place of the contents
+unfoldable pub partAt : List ℕ → ℕ → Part
+partAt f at = part (getD f at 0) (area (leValue (area (at + 1) 4 f)) (leValue (area (at + 5) 4 f)) f)
+
 -- a node's body: its key and its listpack
 unfoldable pub nodeIn : List ℕ → Option (List Entry)
 nodeIn body = parseNode (idFrom (area 0 16 body)) (drop 16 body)
