@@ -1,0 +1,6 @@
+-- Topics.
+mod Rows
+mod Regions
+mod Whole
+-- What callers cite.
+pub mod Laws
