@@ -1,0 +1,9 @@
+-- What is told of an answer; the work behind the claims about whole lists of calls, and the claims.
+pub mod Told
+pub mod Turns
+pub mod Runs
+pub mod Saves
+pub mod Loading
+pub mod OneConsumer
+pub mod Damaged
+pub mod Demands

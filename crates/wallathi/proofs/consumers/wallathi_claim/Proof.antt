@@ -1,0 +1,23 @@
+-- `wallathi_claim` meets its contract. Assumes nothing.
+use mathlib.Core.Path.{refl, ap}
+use borrow.Author.Needs.{needs}
+use Rattle.id.specs.declared.Id.{Id}
+use Rattle.id.specs.Id.{idOf}
+use Rattle.stream.specs.Command as Stream
+use Rattle.stream.specs.Promise.{lent}
+use Rattle.snapshot.specs.Command.{onStream}
+use Rattle.wallathi.proofs.Told.{exported}
+use Rattle.wallathi.proofs.consumers.wallathi_claim.Statement.{statement}
+use Rattle.wallathi.proofs.consumers.wallathi_claim.Tie as tie
+
+pub wallathi-claim-spec : {M : Type 1} → statement M
+wallathi-claim-spec =
+    tie.close
+    (tie.spec
+    (λ c κs. search needs)
+    (λ c κs. search needs)
+    (λ c κs. search needs)
+    (λ c.
+    let x = c .before .before .before .before .before .before .before .args in
+    let d = c .before .claim in
+    exported (lent (x .store .now) (x .state .now)) (lent (x .store .now) (d .last .1 .0)) (onStream (Stream.inGroup (x .group .now) (Stream.claim (x .consumer .now) (x .least-idle) (idOf (x .ms) (x .seq)) (x .time)))) refl (ap (λ (i : Id). onStream (Stream.inGroup (x .group .now) (Stream.claim (x .consumer .now) (x .least-idle) i (x .time)))) (c .before .before .new .ensures)) (d .ensures) (c .tell .ensures)))

@@ -1,0 +1,25 @@
+-- `wallathi_read` meets its contract. Assumes nothing.
+use mathlib.Core.Path.{ap}
+use lib.ListN.{length}
+use borrow.Author.Needs.{needs}
+use Rattle.id.specs.declared.Id.{Id}
+use Rattle.id.specs.Id.{idOf}
+use Rattle.stream.specs.Command as Stream
+use Rattle.stream.specs.Promise.{lent}
+use Rattle.snapshot.specs.Command.{onStream}
+use Rattle.wallathi.proofs.Told.{exported-out}
+use Rattle.wallathi.proofs.reading.wallathi_read.Statement.{statement}
+use Rattle.wallathi.proofs.reading.wallathi_read.Tie as tie
+
+pub wallathi-read-spec : {M : Type 1} → statement M
+wallathi-read-spec =
+    tie.close
+    (tie.spec
+    (λ c κs. search needs)
+    (λ c κs. search needs)
+    (λ c κs. search needs)
+    (λ c. search needs)
+    (λ c.
+    let x = c .before .before .before .before .before .before .before .before .before .before .args in
+    let d = c .before .before .before .before .read in
+    exported-out (lent (x .store .now) (x .state .now)) (lent (x .store .now) (x .state .now)) (onStream (Stream.asks (Stream.read (idOf (x .ms) (x .seq)) (length (x .out .now))))) (x .out .now) (d .last .1 .1 .1 .0) (ap (λ (i : Id). onStream (Stream.asks (Stream.read i (length (x .out .now))))) (c .before .before .before .before .before .before .new .ensures)) (d .ensures) (c .tell-number .ensures)))

@@ -1,0 +1,13 @@
+-- `tell` meets its contract. Assumes nothing.
+use borrow.Author.Needs.{needs}
+use Rattle.wallathi.specs.Export.{numbersBy}
+use Rattle.wallathi.proofs.Told.{no-numbers}
+use Rattle.wallathi.proofs.telling.tell.Statement.{statement}
+use Rattle.wallathi.proofs.telling.tell.Tie as tie
+
+pub tell-spec : {M : Type 1} → statement M
+tell-spec =
+    tie.close
+    (tie.spec
+    (λ c κs. search needs)
+    (λ c. record { code-is = c .code-of .ensures; values-are = no-numbers (numbersBy (c .before .args .r)) }))

@@ -1,0 +1,16 @@
+-- `tell_number` meets its contract. Assumes nothing.
+use borrow.Author.Needs.{needs}
+use Rattle.wallathi.specs.Export.{numbersBy}
+use Rattle.wallathi.proofs.Told.{one-number}
+use Rattle.wallathi.proofs.telling.tell_number.Statement.{statement}
+use Rattle.wallathi.proofs.telling.tell_number.Tie as tie
+
+pub tell-number-spec : {M : Type 1} → statement M
+tell-number-spec =
+    tie.close
+    (tie.spec
+    (λ c κs. search needs)
+    (λ c κs. search needs)
+    (λ c.
+    let x = c .before .before .before .args in
+    record { code-is = c .code-of .ensures; values-are = one-number (numbersBy (x .r)) (x .number .now) (c .before .number-at .ensures) }))
