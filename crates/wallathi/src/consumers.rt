@@ -61,7 +61,7 @@ pub extern "C" fn wallathi_acknowledge(
     ensures { λ r. ⌜ Meets (plain (inGroup (now (group .entry)) (acknowledge (idOf ms seq))) (now (count .entry) ∷ [])) (lent (now (store .entry)) (now (state .entry))) (seen r (now (count .exit) ∷ []) []) (lent (now (store .entry)) (now (state .exit))) ⌝ }
 {
     telling::tell_number(
-        stream_groups::acknowledge(store, state, group, Id::new(ms, seq)),
+        stream_entries::acknowledge(store, state, group, Id::new(ms, seq)),
         count,
     )
 }
@@ -79,7 +79,7 @@ pub extern "C" fn wallathi_claim(
 ) -> u32
     ensures { λ r. ⌜ Meets (plain (inGroup (now (group .entry)) (claim (now (consumer .entry)) «least_idle» (idOf ms seq) time)) []) (lent (now (store .entry)) (now (state .entry))) (seen r [] []) (lent (now (store .entry)) (now (state .exit))) ⌝ }
 {
-    telling::tell(stream_groups::claim(
+    telling::tell(stream_entries::claim(
         store,
         state,
         group,
@@ -133,7 +133,7 @@ pub extern "C" fn wallathi_drop_consumer(
     ensures { λ r. ⌜ Meets (plain (inGroup (now (group .entry)) (dropConsumer (now (consumer .entry)))) (now (count .entry) ∷ [])) (lent (now (store .entry)) (now (state .entry))) (seen r (now (count .exit) ∷ []) []) (lent (now (store .entry)) (now (state .exit))) ⌝ }
 {
     telling::tell_number(
-        stream_groups::drop_consumer(store, state, group, consumer),
+        stream_entries::drop_consumer(store, state, group, consumer),
         count,
     )
 }
