@@ -4,7 +4,8 @@
 use mathlib.Core.Path.{_≡_, sym, ap, _∙_}
 use mathlib.Core.List.{List, [], _∷_, _++_, List·Memᴰ}
 use mathlib.Core.Option.{some, none}
-use Prim.Native.Nat.{ℕ}
+use Prim.Native.Nat.{ℕ, _≤_}
+use lib.ListN.{length}
 use Rattle.groups.specs.Group.{Pending, Group}
 use Rattle.stream.specs.Ledger.{Ledger}
 use Rattle.stream.specs.Cut.{Model, ledgerOf}
@@ -13,12 +14,13 @@ use Rattle.stream.specs.Promise.{Lent, heldBy, slotsOf}
 use Rattle.snapshot.specs.Command.{save, load}
 use Rattle.wallathi.specs.Export.{Seen}
 use Rattle.wallathi.specs.Run.{Call, call, plain, Meets, Made}
-use Rattle.wallathi.specs.Demands.{keptAfter, ledgerBy, AsLedger, OneAnswer, saveSeen, fileIn, Loads, OneConsumer, NoneHeals, twos}
+use Rattle.wallathi.specs.Demands.{keptAfter, ledgerBy, AsLedger, OneAnswer, saveSeen, fileIn, Loads, OneConsumer, NoneHeals, twos, AllPass, SomeRun, FreshRun}
 use Rattle.wallathi.proofs.Runs as runs
 use Rattle.wallathi.proofs.Saves as saves
 use Rattle.wallathi.proofs.Loading as loading
 use Rattle.wallathi.proofs.OneConsumer as consumers
 use Rattle.wallathi.proofs.Damaged as damages
+use Rattle.wallathi.proofs.Possible as possible
 
 -- "From a fresh store, every sequence of commands answers as the plain ledger does with its cut beside it, refusals included, and the
 -- stored listpacks hold that ledger by the published encoding"; "the store after it holds the ledger that document 01 works out from
@@ -70,3 +72,11 @@ one-consumer i m g p e x y = consumers.has-one-consumer i m g p e x y
 -- all their bytes": a store that is no image, until it is set up or loaded
 pub damaged : {cs : List Call} {i k : Lent} {ss : List Seen} → Made cs i ss k → heldBy i ≡ none → NoneHeals cs → (ss ≡ twos cs) × (k ≡ i)
 damaged m e h = damages.damaged m e h
+
+-- none of this is said of nothing: whatever a store of at least 4,096 bytes held, there is such a list of promises kept, from set up on,
+-- for every list of calls with arguments that C can pass; and so there is from any bytes
+pub fresh-run : (cs : List Call) (i₀ : Lent) → 4096 ≤ length (i₀ .store) → AllPass cs → FreshRun cs i₀
+fresh-run cs i₀ h p = possible.fresh-run cs i₀ h p
+
+pub some-run : (cs : List Call) (i : Lent) → AllPass cs → SomeRun cs i
+some-run cs i p = possible.some-run cs i p

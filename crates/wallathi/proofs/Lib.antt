@@ -6,4 +6,8 @@ pub mod Saves
 pub mod Loading
 pub mod OneConsumer
 pub mod Damaged
+pub mod Records
+pub mod Built
+pub mod Keeps
+pub mod Possible
 pub mod Demands

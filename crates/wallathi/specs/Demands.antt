@@ -3,23 +3,25 @@ use mathlib.Core.Path.{_≡_}
 use mathlib.Core.Bool.{true, false}
 use mathlib.Core.List.{List, [], _∷_, _++_, List·Memᴰ}
 use mathlib.Core.Option.{Option, some, Option·map}
-use Prim.Native.Nat.{ℕ, _≤_}
+use Prim.Native.Nat.{ℕ, _^_, _≤_, _<_}
 use lib.Dec.{leb}
 use lib.ListN.{length, take, drop, getD}
 use Rattle.octets.specs.Pick.{pick}
 use Rattle.octets.specs.Bytes.{Bytes}
+use Rattle.id.specs.Id.{Fits64}
 use Rattle.groups.specs.Group.{Pending, Group, isAmong}
 use Rattle.stream.specs.Ledger.{Ledger, emptyLedger, isLedger}
 use Rattle.stream.specs.Cut.{Node, Model, modelOf, ledgerOf, isModel, freshCut}
-use Rattle.stream.specs.Command.{Answer}
+use Rattle.stream.specs.Command as Stream
+use Rattle.stream.specs.Command.{GroupCommand, groupRead, acknowledge, claim, nextPending, dropConsumer, setUp, add, addByClock, delete, trim, createGroup, destroyGroup, asks, inGroup, Answer}
 use Rattle.stream.specs.Laid.{Laid}
 use Rattle.stream.specs.Run.{Turn, run, answers}
 use Rattle.stream.specs.Promise.{Lent, heldBy, slotsOf, tailOf}
 use Rattle.snapshot.specs.Bytes.{snapshotOf}
-use Rattle.snapshot.specs.Command.{Command, loaded, heals, stepOf}
+use Rattle.snapshot.specs.Command.{Command, onStream, save, load, loaded, heals, stepOf}
 use Rattle.snapshot.specs.Ledger.{ledgerTurn, besideTurn}
 use Rattle.wallathi.specs.Export.{Seen, seen, tellTo}
-use Rattle.wallathi.specs.Run.{Call, commandOf}
+use Rattle.wallathi.specs.Run.{Call, plain, commandOf, Meets, Made}
 
 -- the plain ledger with the cut beside it
 pub record Kept : Type 0 where
@@ -126,3 +128,45 @@ NoneHeals (c ∷ cs) = (heals (commandOf c) ≡ false) × NoneHeals cs
 abbrev pub twos : List Call → List Seen
 twos [] = []
 twos (c ∷ cs) = seen 2 (c .values) (c .output) ∷ twos cs
+
+-- arguments as C can pass them: IDs and times of 64 bits, bytes (of names and files this is known by what the commands test)
+abbrev pub PassesGroup : GroupCommand → Type 0
+PassesGroup (groupRead consumer time) = time < 2 ^ 64
+PassesGroup (acknowledge i) = Unit {0}
+PassesGroup (claim consumer idle i time) = time < 2 ^ 64
+PassesGroup (nextPending consumer i) = Unit {0}
+PassesGroup (dropConsumer consumer) = Unit {0}
+
+abbrev pub PassesStream : Stream.Command → Type 0
+PassesStream setUp = Unit {0}
+PassesStream (add i s) = Fits64 i × Bytes s
+PassesStream (addByClock time s) = (time < 2 ^ 64) × Bytes s
+PassesStream (delete i) = Unit {0}
+PassesStream (trim k) = Unit {0}
+PassesStream (createGroup name start) = Fits64 start
+PassesStream (destroyGroup name) = Unit {0}
+PassesStream (asks q) = Unit {0}
+PassesStream (inGroup name c) = PassesGroup c
+
+abbrev pub Passes : Command → Type 0
+Passes (onStream c) = PassesStream c
+Passes (save room) = Unit {0}
+Passes (load file) = Unit {0}
+
+abbrev pub AllPass : List Call → Type 0
+AllPass [] = Unit {0}
+AllPass (c ∷ cs) = Passes (commandOf c) × AllPass cs
+
+-- a list of calls that were made
+pub record SomeRun (cs : List Call) (i : Lent) : Type 0 where
+  pub seen : List Seen
+  pub after : Lent
+  pub made : Made cs i seen after
+
+-- on a store that was set up, whatever it held before
+pub record FreshRun (cs : List Call) (i₀ : Lent) : Type 0 where
+  pub told : Seen
+  pub begun : Lent
+  pub sets-up : Meets (plain setUp []) i₀ told begun
+  pub code-is : told .code ≡ 0
+  pub run-on : SomeRun cs begun
