@@ -65,8 +65,11 @@ impl Lent {
         Cut::slot_count(self.store.len()) * SLOT_BYTES
     }
 
-    pub fn knows_record(&self) -> bool {
-        matches!(self.record, Record::Bytes(_))
+    /// Whether these bytes, one of them changed, are an image.
+    pub fn is_image_after(&self, damage: &Damage) -> bool {
+        let mut damaged = self.clone();
+        damaged.shift(damage.place, damage.step);
+        damaged.model.is_some()
     }
 
     /// The lines that the proved program writes for a request.
@@ -102,12 +105,11 @@ impl Lent {
 
     /// How many answers were not refusal 2, and a checksum over them.
     fn sweep(&mut self, query: &Command, damage: &Damage) -> Vec<String> {
-        let (mut count, mut sum, kept) = (0, 0, self.model.clone());
+        let (mut count, mut sum) = (0, 0);
         for place in (0..damage.times).map(|turn| damage.place + turn * damage.stride) {
-            self.shift(place, damage.step);
-            let answer = self.run(query);
-            self.shift_bytes(place, damage.step.wrapping_neg());
-            self.model.clone_from(&kept);
+            self.shift_byte(place, damage.step);
+            let answer = Store { length: self.length(), model: self.read() }.run(query);
+            self.shift_byte(place, damage.step.wrapping_neg());
             if answer != Answer::Refused(2) {
                 count += 1;
                 sum = mix(mix(sum, place as u64), number_of(&answer));
@@ -119,7 +121,7 @@ impl Lent {
     /// The command's answer; the bytes are then what the command leaves.
     pub fn run(&mut self, command: &Command) -> Answer {
         let before = self.model.clone();
-        let mut store = Store { length: self.store.len(), model: self.model.take() };
+        let mut store = Store { length: self.length(), model: self.model.take() };
         let answer = store.run(command);
         self.model = store.model;
         if self.model != before || (command, &answer) == (&Command::SetUp, &Answer::Done) {
@@ -167,7 +169,7 @@ impl Lent {
         self.model = self.read();
     }
 
-    fn shift_bytes(&mut self, place: usize, step: u8) {
+    fn shift_byte(&mut self, place: usize, step: u8) {
         if step == 0 {
             return;
         }
@@ -177,7 +179,7 @@ impl Lent {
     }
 
     fn shift(&mut self, place: usize, step: u8) {
-        self.shift_bytes(place, step);
+        self.shift_byte(place, step);
         if step != 0 {
             self.model = self.read();
         }

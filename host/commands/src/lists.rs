@@ -5,7 +5,7 @@ use wallathi_model::generate::Commands;
 use wallathi_model::groups::{MOST_CONSUMERS, MOST_GROUPS, MOST_PENDING, REGION_BYTES};
 use wallathi_model::id::Id;
 use wallathi_model::image;
-use wallathi_model::index::{record, POOL_NODES};
+use wallathi_model::index::{record, Index, LONGEST_KEY, POOL_NODES};
 use wallathi_model::ledger::{Command, Model, Store};
 use wallathi_model::message::Message;
 use wallathi_model::node::{Node, SLOT_BYTES};
@@ -16,6 +16,9 @@ use crate::lent::{Lent, GROUPS_PLACE, INDEX_PLACE};
 use crate::request::{Damage, Request, MOST_BYTES, STATE_PLACE};
 
 const SEED: u64 = 15;
+
+/// The length of the store whose places are changed one by one.
+const DAMAGED_STORE: usize = 3 * SLOT_BYTES + 5;
 
 /// Requests, what they have made of the store and the state, and the lines that they come to.
 pub struct Lists {
@@ -63,18 +66,33 @@ impl Lists {
     fn random(&mut self, seed: u64, count: usize) {
         let mut next = Commands::new(seed);
         for _ in 0..count {
-            let store = Store { length: self.lent.length(), model: self.lent.model.clone() };
-            let command = loop {
-                if let Some(command) = taken(next.next(&store)) {
-                    break command;
-                }
-            };
-            if self.rng.one_in(4) {
-                self.run_damaged(command);
-            } else {
-                self.run(command);
+            let command = self.next(&mut next);
+            match self.rng.below(40) {
+                0 => self.trim(),
+                1..=10 => self.run_damaged(command),
+                _ => self.run(command),
             }
         }
+    }
+
+    fn next(&self, commands: &mut Commands) -> Command {
+        let store = Store { length: self.lent.length(), model: self.lent.model.clone() };
+        loop {
+            if let Some(command) = taken(commands.next(&store)) {
+                return command;
+            }
+        }
+    }
+
+    /// So that a store which is full takes messages again.
+    fn trim(&mut self) {
+        let live = self.lent.model.as_ref().map_or(0, |model| model.ledger.messages.len());
+        let keep = self.rng.size_below(live + 1) as u64;
+        self.run(Command::Trim { keep });
+    }
+
+    fn create(&mut self, group: &[u8]) {
+        self.run(Command::CreateGroup { group: group.to_vec(), start: Id::LEAST });
     }
 
     /// The command on bytes of which one is changed. Where that would leave bytes that are no image
@@ -143,6 +161,7 @@ impl Lists {
                 self.random(length as u64 + 4, 8);
             }
             self.begin(length);
+            self.create(b"a");
             self.random(length as u64, count / 2);
             self.random(length as u64 + 1, count - count / 2);
         }
@@ -186,10 +205,8 @@ impl Lists {
         let node = self.node();
         let size = |length| node.with(Id::new(5, seq), &pairs(length)).size();
         let length = (0..1_000).find(|&length| size(length) == 4_095).expect("a length fills it");
-        let damage = Damage::default();
         for length in [length + 1, length] {
-            let command = Command::Add { id: Id::new(5, seq), slip: slip::write(&pairs(length)) };
-            self.push(Request::Run { command, damage });
+            self.add(Id::new(5, seq), &pairs(length));
         }
     }
 
@@ -229,6 +246,10 @@ impl Lists {
         (0..=MOST_CONSUMERS).for_each(|consumer| self.run(read(consumer)));
         for number in 0..MOST_PENDING - MOST_CONSUMERS + 1 {
             self.run(read(number % MOST_CONSUMERS));
+        }
+        for number in 0..=MOST_CONSUMERS {
+            let after = Id::new(9, 20 * number as u64);
+            self.run(Command::NextPending { group: group.clone(), consumer: text("c", number), after });
         }
         for (consumer, seq) in [(16, 3), (2, 3), (3, 3), (3, 258)] {
             let (group, consumer) = (group.clone(), text("c", consumer));
@@ -283,24 +304,57 @@ impl Lists {
 
     /// The index as it is, its nodes at random places.
     fn put_record(&mut self) {
-        let index = image::index(&self.model().cut);
+        self.put_index(&image::index(&self.model().cut));
+    }
+
+    fn put_index(&mut self, index: &Index) {
         let mut places: Vec<usize> = (0..POOL_NODES).collect();
         (0..POOL_NODES).for_each(|i| places.swap(i, self.rng.size_below(POOL_NODES)));
         places.truncate(index.shape().node_count());
-        self.push(Request::Put { place: INDEX_PLACE, bytes: record::write(&index, &places) });
+        self.push(Request::Put { place: INDEX_PLACE, bytes: record::write(index, &places) });
+    }
+
+    /// Any command on a record of which a byte is changed. Where that is an image still, a query.
+    fn damaged_record(&mut self, seed: u64, count: usize) {
+        let mut next = Commands::new(seed);
+        for _ in 0..count {
+            let place = INDEX_PLACE + self.rng.size_below(record::RECORD_BYTES);
+            let damage = Damage { place, step: self.step(), ..Damage::default() };
+            let command = match self.next(&mut next) {
+                Command::SetUp => Command::Trim { keep: 0 },
+                _ if self.lent.is_image_after(&damage) => Command::Next { id: Id::LEAST },
+                command => command,
+            };
+            self.push(Request::Run { command, damage });
+        }
+    }
+
+    /// Records of other keys than the nodes have.
+    fn other_records(&mut self) {
+        for keys in [1, 2, 5, 20, 64] {
+            let mut index = Index::new();
+            for value in 0..keys {
+                let length = *self.rng.pick(&[1, 2, 15, LONGEST_KEY]);
+                let key: Vec<u8> = (0..length).map(|_| *self.rng.pick(b"ab\0\xff")).collect();
+                index.put(&key, value).expect("at most 64 keys of 1 to 16 bytes");
+            }
+            self.put_index(&index);
+            self.random(u64::from(keys) * 2 + 1, 4);
+        }
     }
 
     /// Queries on three slots and their state, each place changed in turn.
     fn damage(&mut self) {
-        self.begin(3 * SLOT_BYTES + 5);
-        for _ in 0..3 {
+        self.begin(DAMAGED_STORE);
+        for _ in 0..2 {
             self.damaged_store();
         }
+        self.other_records();
     }
 
     fn damaged_store(&mut self) {
         self.run(Command::SetUp);
-        self.run(Command::CreateGroup { group: b"a".to_vec(), start: Id::LEAST });
+        self.create(b"a");
         let seed = self.rng.next() | 1;
         self.random(seed, 120);
         self.put_record();
@@ -316,16 +370,15 @@ impl Lists {
             self.push(Request::Run { command: query.clone(), damage });
         };
         for step in [1, 128, 255] {
-            sweep(&read, 0, step, STORE_PLACES, 3);
+            sweep(&read, 0, step, DAMAGED_STORE / 5, 5);
             sweep(&next, STATE_PLACE, step, 16, 1);
-            sweep(&field, INDEX_PLACE, step, 600, 11);
-            sweep(&pending, GROUPS_PLACE, step, 800, 1);
-            sweep(&pending, GROUPS_PLACE + 800, step, 600, 95);
+            sweep(&field, INDEX_PLACE, step, 400, 16);
+            sweep(&pending, GROUPS_PLACE, step, 500, 1);
+            sweep(&pending, GROUPS_PLACE + 500, step, 300, 190);
         }
+        self.damaged_record(seed, 40);
     }
 }
-
-const STORE_PLACES: usize = (3 * SLOT_BYTES + 5) / 3;
 
 /// A message of few bytes.
 fn short() -> Message {

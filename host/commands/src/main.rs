@@ -18,3 +18,43 @@ fn main() -> std::io::Result<()> {
     println!("{}", lists.lines.join("\n"));
     Ok(())
 }
+
+#[cfg(test)]
+mod tests {
+    use super::*;
+
+    #[test]
+    fn answers_of_every_kind_come_up() {
+        let lists = lists::lists();
+        for (line, least) in [
+            ("done", 50),
+            ("ms", 600),
+            ("counted 0", 50),
+            ("counted 1", 100),
+            ("length", 40),
+            ("lives", 15),
+            ("moved", 20),
+            ("nothing", 50),
+            ("absent", 30),
+            ("not moved", 20),
+            ("accepted", 30),
+            ("no index", 20),
+        ] {
+            let count = lists.lines.iter().filter(|text| text.starts_with(line)).count();
+            assert!(count >= least, "{line}: {count}");
+        }
+        for number in 1..=14 {
+            assert!(lists.lines.contains(&format!("refused {number}")), "{number}");
+        }
+        assert!(lists.lines.iter().filter(|line| *line == "refused 2").count() > 300);
+    }
+
+    #[test]
+    fn every_command_comes_up() {
+        let requests = lists::lists().requests;
+        for letter in *b"SACDTNRFGHEKMIULP" {
+            let count = requests.iter().filter(|request| request.to_bytes()[0] == letter).count();
+            assert!(count >= 5, "{}: {count}", letter as char);
+        }
+    }
+}
