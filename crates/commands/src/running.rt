@@ -1,0 +1,137 @@
+// A command on a store and a state of which a byte may be changed before it, and back after it.
+
+use crate::asking;
+use crate::changing;
+use crate::showing;
+use crate::showing::Accepted;
+use id::Id;
+use stream::Reply;
+ghost use mathlib.Core.Path.{_≡_};
+ghost use Prim.Native.Nat.{_≤_};
+ghost use lib.ListN.{length};
+
+pub struct Request {
+    pub letter: u8,
+    pub id: Id,
+    pub time: u64,
+    pub number: u64,
+    pub place: u64,
+    pub step: u64,
+    pub times: u64,
+    pub stride: u64,
+}
+
+// The step added to the byte at a place, if there is one.
+fn shift_at(d: &mut [u8], place: u64, step: u64) {
+    if 300000 < place {
+        return;
+    }
+    let at = place as usize;
+    if d.len() <= at {
+        return;
+    }
+    d[at] = ((octets::wide(d[at]) + step % 256) % 256) as u8;
+}
+
+fn shift(store: &mut [u8], state: &mut [u8], place: u64, step: u64) {
+    if place < 300000 {
+        shift_at(store, place, step);
+        return;
+    }
+    shift_at(state, place - 300000, step);
+}
+
+fn shift_back(store: &mut [u8], state: &mut [u8], place: u64, step: u64) {
+    shift(store, state, place, 256 - step % 256);
+}
+
+fn reply_to(
+    store: &mut [u8],
+    state: &mut [u8],
+    q: Request,
+    bytes: &[u8],
+    name: &[u8],
+    out: &mut [u8],
+) -> Reply
+    requires { ⌜ (length (now state) ≡ 64434) × (length (now out) ≡ 8192) ⌝ }
+{
+    let letter = q.letter;
+    match letter {
+        b'S' | b'A' | b'C' | b'D' | b'T' => changing::change(store, state, q, bytes),
+        b'G' | b'H' | b'E' | b'K' | b'M' | b'U' => changing::change_group(
+            store,
+            state,
+            q,
+            bytes,
+            name,
+        ),
+        _ => asking::ask(store, state, q, bytes, name, out),
+    }
+}
+
+fn run_once(store: &mut [u8], state: &mut [u8], q: Request, bytes: &[u8], name: &[u8])
+    requires { ⌜ length (now state) ≡ 64434 ⌝ }
+{
+    let mut out = [238u8; 8192];
+    shift(store, state, q.place, q.step);
+    let reply = reply_to(store, state, q, bytes, name, &mut out);
+    shift_back(store, state, q.place, q.step);
+    showing::reply(reply);
+    let letter = q.letter;
+    match letter {
+        b'R' | b'F' => showing::output(reply, &out),
+        _ => {}
+    }
+}
+
+fn ask_at(
+    store: &mut [u8],
+    state: &mut [u8],
+    q: Request,
+    place: u64,
+    bytes: &[u8],
+    name: &[u8],
+    before: Accepted,
+) -> Accepted
+    requires { ⌜ length (now state) ≡ 64434 ⌝ }
+{
+    let mut out = [238u8; 8192];
+    shift(store, state, place, q.step);
+    let reply = asking::ask(store, state, q, bytes, name, &mut out);
+    shift_back(store, state, place, q.step);
+    showing::with_reply(before, place, reply)
+}
+
+fn run_often(store: &mut [u8], state: &mut [u8], q: Request, bytes: &[u8], name: &[u8])
+    requires { ⌜ length (now state) ≡ 64434 ⌝ }
+{
+    let times = q.times % 100000;
+    let stride = q.stride % 65536;
+    let mut a = Accepted { count: 0, sum: 0 };
+    let mut place = q.place % 400000;
+    let mut i: u64 = 0;
+    while i < times {
+        a = ask_at(store, state, q, place, bytes, name, a);
+        place = (place + stride) % 400000;
+        i += 1;
+    }
+    show::count(b"accepted", a.count);
+    show::count(b"where", a.sum);
+}
+
+fn respond(store: &mut [u8], state: &mut [u8], q: Request, bytes: &[u8], name: &[u8])
+    requires { ⌜ length (now state) ≡ 64434 ⌝ }
+{
+    if 0 < q.times {
+        run_often(store, state, q, bytes, name);
+        return;
+    }
+    run_once(store, state, q, bytes, name);
+}
+
+pub fn run(store: &mut [u8], state: &mut [u8], q: Request, bytes: &[u8], name: &[u8])
+    requires { ⌜ length (now state) ≡ 64434 ⌝ }
+{
+    respond(store, state, q, bytes, name);
+    showing::lent(store, state);
+}
