@@ -24,8 +24,8 @@ fn change_entry(store: &[u8], state: &mut [u8], q: Request, group: &[u8], consum
     let letter = q.letter;
     match letter {
         b'E' => stream_group_read::group_read(store, state, group, consumer, q.time),
-        b'K' => stream_groups::acknowledge(store, state, group, q.id),
-        _ => stream_groups::claim(store, state, group, consumer, q.number, q.id, q.time),
+        b'K' => stream_entries::acknowledge(store, state, group, q.id),
+        _ => stream_entries::claim(store, state, group, consumer, q.number, q.id, q.time),
     }
 }
 
@@ -42,7 +42,7 @@ pub fn change_group(
     match letter {
         b'G' => stream_groups::create_group(store, state, group, q.id),
         b'H' => stream_groups::destroy_group(store, state, group),
-        b'U' => stream_groups::drop_consumer(store, state, group, consumer),
+        b'U' => stream_entries::drop_consumer(store, state, group, consumer),
         _ => change_entry(store, state, q, group, consumer),
     }
 }
