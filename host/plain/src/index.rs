@@ -8,15 +8,8 @@
 //! the first child and the next sibling, the value, the label. Every key has 16 bytes, so that just the
 //! nodes at depth 16 are keys and leaves. A key is handled as one big-endian number.
 
-use wallathi_model::index::record::RECORD_BYTES;
+use wallathi_model::index::record::{CHILD, KEY, LABEL, LEN, NEXT, RECORD_BYTES, VAL};
 use wallathi_model::index::{LONGEST_KEY, MOST_KEYS, POOL_NODES};
-
-const LEN: usize = 2;
-const KEY: usize = LEN + POOL_NODES;
-const CHILD: usize = KEY + POOL_NODES;
-const NEXT: usize = CHILD + 2 * POOL_NODES;
-const VAL: usize = NEXT + 2 * POOL_NODES;
-const LABEL: usize = VAL + 4 * POOL_NODES;
 
 pub type Record = [u8; RECORD_BYTES];
 

@@ -162,7 +162,7 @@ fn signed(bytes: &[u8]) -> i64 {
 }
 
 /// An integer that is in order, and the place after it.
-#[inline]
+#[inline(always)]
 pub fn integer_at(bytes: &[u8], at: usize) -> (i64, usize) {
     let first = bytes[at];
     match first {

@@ -40,7 +40,7 @@ impl<'a> Iterator for Elements<'a> {
 
 impl<'a> Live<'a> {
     /// A message of a node that is in order, whose master has these names.
-    #[inline]
+    #[inline(always)]
     fn new(node: &'a [u8], key: Id, message: Message, fields: &'a [u8], count: usize) -> Live<'a> {
         let id = message.id(key);
         if message.is_matching() {
@@ -65,14 +65,13 @@ impl<'a> Live<'a> {
         Elements(self.body).skip(usize::from(self.own)).step_by(if self.own { 2 } else { 1 })
     }
 
-    /// Equal strings have equal elements, and no element begins another.
-    #[inline]
+    /// Equal strings have equal elements, and no element begins another. Messages of one node share their names where they lie.
+    #[inline(always)]
     pub fn has_names_of(&self, other: &Live) -> bool {
         if self.own || other.own {
-            self.count == other.count && self.names().eq(other.names())
-        } else {
-            self.names == other.names
+            return self.count == other.count && self.names().eq(other.names());
         }
+        std::ptr::eq(self.names, other.names) || self.names == other.names
     }
 
     fn values_size(&self) -> usize {
@@ -80,8 +79,8 @@ impl<'a> Live<'a> {
     }
 
     /// The bytes of a message's elements in a node with this first message: flags, differences, body, count.
-    #[inline]
-    pub fn size_after(&self, first: &Live, matching: bool) -> usize {
+    #[inline(always)]
+    fn size_after(&self, first: &Live, matching: bool) -> usize {
         let (ms, seq) = self.id.difference(first.id);
         let names = if matching { 0 } else { 2 + self.names_size };
         2 + integer_size(ms) + integer_size(seq) + names + self.values_size() + 2
@@ -92,14 +91,15 @@ impl<'a> Live<'a> {
         FRAME + self.names_size + self.size_after(self, true)
     }
 
-    /// The bytes of a node after an add of this message; none where the add goes elsewhere.
-    #[inline]
-    pub fn added_to(&self, first: &Live, live: usize, total: usize) -> Option<usize> {
+    /// The bytes of a node after an add of this message, and whether its fields are the node's; none where the add goes elsewhere.
+    #[inline(always)]
+    pub fn added_to(&self, first: &Live, live: usize, total: usize) -> Option<(usize, bool)> {
         if live >= MOST_LIVE {
             return None;
         }
-        let after = total + self.size_after(first, self.has_names_of(first));
-        (after <= MOST_BYTES).then_some(after)
+        let matching = self.has_names_of(first);
+        let after = total + self.size_after(first, matching);
+        (after <= MOST_BYTES).then_some((after, matching))
     }
 }
 
@@ -123,7 +123,7 @@ impl<'a> Lives<'a> {
 impl<'a> Iterator for Lives<'a> {
     type Item = Live<'a>;
 
-    #[inline]
+    #[inline(always)]
     fn next(&mut self) -> Option<Live<'a>> {
         let message = self.walk.find(self.node, |_| true)?;
         Some(Live::new(self.node, self.key, message, self.names, self.walk.fields))

@@ -49,8 +49,8 @@ fn cut(store: &[u8], rows: &[Row]) -> Option<Cut> {
     let mut node = alone(&first);
     for message in messages {
         match message.added_to(&first, node.live, node.total) {
-            Some(total) => {
-                let elements = node.elements + elements(&message, message.has_names_of(&first));
+            Some((total, matching)) => {
+                let elements = node.elements + elements(&message, matching);
                 node = Fresh { live: node.live + 1, total, elements, ..node };
             }
             None => {
