@@ -4,10 +4,10 @@
 //! valgrind). See docs/PERFORMANCE.md.
 
 use std::hint::black_box;
-use std::process::Command;
 use std::time::{Duration, Instant};
 
 use bench::{plain, proved};
+use measure::median;
 use wallathi_model::rng::Rng;
 
 mod groups;
@@ -164,11 +164,6 @@ fn timed(run: &mut dyn FnMut(u64), times: u64) -> f64 {
     start.elapsed().as_nanos() as f64 / times as f64
 }
 
-fn median(samples: &mut [f64]) -> f64 {
-    samples.sort_by(f64::total_cmp);
-    samples[samples.len() / 2]
-}
-
 fn print_head(figure: &str) {
     print!("{figure:34} {:>10} {:>12} {:>8}", "proved", "plain Rust", "ratio");
 }
@@ -204,19 +199,9 @@ fn time() {
     }
 }
 
-/// How many instructions this program executes when it runs a side of a task so many times.
+/// How many instructions a side of a task takes so many times, with all that comes before.
 fn instructions_of(task: usize, side: &str, times: u64) -> f64 {
-    let program = std::env::current_exe().expect("the program's own path");
-    let run = Command::new("valgrind")
-        .args(["--tool=callgrind", "--callgrind-out-file=/dev/null"])
-        .arg(program)
-        .args(["run", &task.to_string(), side, &times.to_string()])
-        .output()
-        .expect("valgrind runs");
-    let told = String::from_utf8_lossy(&run.stderr).into_owned();
-    let count =
-        told.lines().find_map(|line| line.split("Collected :").nth(1)).unwrap_or_else(|| panic!("{told}"));
-    count.trim().parse().expect("a number")
+    measure::instructions_of(&["run", &task.to_string(), side, &times.to_string()])
 }
 
 /// The difference of two runs is what the calls alone take.

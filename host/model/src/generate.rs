@@ -56,6 +56,17 @@ fn long_message(rng: &mut Rng) -> Message {
     (0..values).map(|_| (field(rng), vec![b'x'; 950 + rng.size_below(51)])).collect()
 }
 
+/// One small integer, mostly of the same field.
+fn small_message(rng: &mut Rng) -> Message {
+    let field: &[u8] = if rng.one_in(50) { b"u" } else { b"t" };
+    vec![(field.to_vec(), crate::decimal::text(rng.below(120) as i64))]
+}
+
+/// A message of up to 2,000 bytes.
+fn longer_message(rng: &mut Rng) -> Message {
+    (0..1 + rng.below(2)).map(|_| (field(rng), vec![b'x'; 300 + rng.size_below(701)])).collect()
+}
+
 /// A message that makes a node of at most 4,095 bytes.
 fn message_that_fits(rng: &mut Rng) -> Message {
     loop {
@@ -123,10 +134,25 @@ fn consumer(rng: &mut Rng) -> Name {
     format!("consumer{number}").into_bytes()
 }
 
+/// What a list of commands is like.
+#[derive(Clone, Copy, Debug, PartialEq, Eq)]
+pub enum Mood {
+    /// Commands of every kind.
+    Mixed,
+    /// No set up, load, destroy, drop or greatest ID, so that the store and its groups fill up.
+    Fills,
+    /// Likewise, with messages of one small integer: a node has 100 live ones.
+    FillsSmall,
+    /// Likewise, with long messages: a node has a few.
+    FillsLong,
+    /// Small messages, and trims to some 50: a node has many deleted ones.
+    Rolls,
+}
+
 /// Makes commands that suit what a store holds, so that answers of every kind come up.
 pub struct Commands {
     rng: Rng,
-    /// No set up, load, destroy, drop or greatest ID, so that the store and its groups fill up.
+    mood: Mood,
     only_fills: bool,
     /// Snapshots of earlier ledgers.
     files: Vec<Vec<u8>>,
@@ -135,7 +161,11 @@ pub struct Commands {
 impl Commands {
     /// Odd seeds give lists that only fill.
     pub fn new(seed: u64) -> Commands {
-        Commands { rng: Rng::new(seed), only_fills: seed % 2 == 1, files: Vec::new() }
+        Commands::with_mood(seed, if seed % 2 == 1 { Mood::Fills } else { Mood::Mixed })
+    }
+
+    pub fn with_mood(seed: u64, mood: Mood) -> Commands {
+        Commands { rng: Rng::new(seed), mood, only_fills: mood != Mood::Mixed, files: Vec::new() }
     }
 
     pub fn next(&mut self, store: &Store) -> Command {
@@ -189,7 +219,12 @@ impl Commands {
 
     /// Mostly a valid slip; now and then a byte is changed or the end is cut off.
     fn slip(&mut self) -> Vec<u8> {
-        let mut slip = slip::write(&message(&mut self.rng));
+        let message = match self.mood {
+            Mood::Mixed | Mood::Fills => message(&mut self.rng),
+            Mood::FillsSmall | Mood::Rolls => small_message(&mut self.rng),
+            Mood::FillsLong => longer_message(&mut self.rng),
+        };
+        let mut slip = slip::write(&message);
         let place = self.rng.size_below(slip.len());
         match self.rng.below(40) {
             0 => slip[place] = self.rng.byte(),
@@ -260,7 +295,8 @@ impl Commands {
     fn keep(&mut self, ledger: &Ledger) -> u64 {
         match self.rng.below(10) {
             0 => self.rng.next(),
-            1 => 0,
+            1 if !self.only_fills => 0,
+            _ if self.mood == Mood::Rolls => 40 + self.rng.below(20),
             _ => (ledger.messages.len() as u64).saturating_sub(self.rng.below(30)),
         }
     }

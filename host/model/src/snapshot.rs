@@ -51,12 +51,13 @@ pub fn snapshot(ledger: &Ledger) -> Result<Vec<u8>, Refusal> {
     Ok(file(&entries))
 }
 
-fn node_body(node: &Node) -> Vec<u8> {
+/// A body of kind 2.
+pub fn node_body(node: &Node) -> Vec<u8> {
     [&node.key().to_bytes()[..], &node.to_bytes()].concat()
 }
 
 /// The file of these kinds and bodies.
-fn file(entries: &[(u8, Vec<u8>)]) -> Vec<u8> {
+pub fn file(entries: &[(u8, Vec<u8>)]) -> Vec<u8> {
     let mut contents = vec![VERSION];
     contents.extend((entries.len() as u16).to_le_bytes());
     let mut bodies = Vec::new();

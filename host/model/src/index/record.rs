@@ -12,12 +12,12 @@
 use super::{Children, Index, Shape, LONGEST_KEY, POOL_NODES};
 use crate::refusal::Refused;
 
-const LEN: usize = 2;
-const KEY: usize = LEN + POOL_NODES;
-const CHILD: usize = KEY + POOL_NODES;
-const NEXT: usize = CHILD + 2 * POOL_NODES;
-const VAL: usize = NEXT + 2 * POOL_NODES;
-const LABEL: usize = VAL + 4 * POOL_NODES;
+pub const LEN: usize = 2;
+pub const KEY: usize = LEN + POOL_NODES;
+pub const CHILD: usize = KEY + POOL_NODES;
+pub const NEXT: usize = CHILD + 2 * POOL_NODES;
+pub const VAL: usize = NEXT + 2 * POOL_NODES;
+pub const LABEL: usize = VAL + 4 * POOL_NODES;
 pub const RECORD_BYTES: usize = LABEL + LONGEST_KEY * POOL_NODES;
 
 /// A field of a place: where its array begins, and the width of an element.

@@ -10,6 +10,8 @@ use wallathi_model::groups::{MOST_CONSUMERS, MOST_GROUPS, MOST_PENDING, REGION_B
 use wallathi_model::id::Id;
 use wallathi_model::message::LONGEST_NAME;
 
+use crate::all_zero;
+
 const DELIVERED: usize = 17;
 const CONSUMERS: usize = 33;
 const FIELDS: usize = 34;
@@ -21,11 +23,7 @@ const PLACE: usize = 16;
 const TIME: usize = 17;
 const COUNT: usize = 25;
 
-fn all_zero(bytes: &[u8]) -> bool {
-    bytes.iter().fold(0, |all, byte| all | byte) == 0
-}
-
-fn id_at(bytes: &[u8], at: usize) -> Id {
+pub(crate) fn id_at(bytes: &[u8], at: usize) -> Id {
     let half = |at: usize| u64::from_be_bytes(bytes[at..at + 8].try_into().expect("8 bytes"));
     Id::new(half(at), half(at + 8))
 }
@@ -61,13 +59,9 @@ fn names_pass(region: &[u8]) -> bool {
     all_zero(rest)
 }
 
-fn entries_pass(region: &[u8], last: Id) -> bool {
-    let (count, consumers) = (number_at(region, PENDING), usize::from(region[CONSUMERS]));
-    if count > MOST_PENDING {
-        return false;
-    }
-    let (entries, rest) = region[ENTRIES..].split_at(count * ENTRY);
-    let most = id_at(region, DELIVERED).min(last);
+/// Whether entries stand by rising ID up to the most, each with one of so many consumers.
+#[inline]
+fn rise(entries: &[u8], consumers: usize, most: Id) -> bool {
     let mut above = Id::LEAST;
     for entry in entries.chunks_exact(ENTRY) {
         let id = id_at(entry, 0);
@@ -77,7 +71,16 @@ fn entries_pass(region: &[u8], last: Id) -> bool {
         }
         above = id;
     }
-    all_zero(rest)
+    true
+}
+
+fn entries_pass(region: &[u8], last: Id) -> bool {
+    let (count, consumers) = (number_at(region, PENDING), usize::from(region[CONSUMERS]));
+    if count > MOST_PENDING {
+        return false;
+    }
+    let (entries, rest) = region[ENTRIES..].split_at(count * ENTRY);
+    rise(entries, consumers, id_at(region, DELIVERED).min(last)) && all_zero(rest)
 }
 
 /// The group's name, if the region is that of a group with no pending ID above the last ID.
@@ -111,7 +114,7 @@ fn is_sound(region: &[u8]) -> bool {
     name_of_sound(region, Id::GREATEST).is_some()
 }
 
-fn is_name(name: &[u8]) -> bool {
+pub(crate) fn is_name(name: &[u8]) -> bool {
     (1..=LONGEST_NAME).contains(&name.len())
 }
 
@@ -176,9 +179,18 @@ pub fn deliver(region: &mut [u8], consumer: &[u8], time: u64, id: Id) -> u32 {
     if !is_name(consumer) {
         return 3;
     }
-    if id <= id_at(region, DELIVERED) {
+    if id <= delivered(region) {
         return 4;
     }
+    deliver_in(region, consumer, time, id)
+}
+
+pub(crate) fn delivered(region: &[u8]) -> Id {
+    id_at(region, DELIVERED)
+}
+
+/// Deliver in a region that is in order: 12, 13 or 0.
+pub(crate) fn deliver_in(region: &mut [u8], consumer: &[u8], time: u64, id: Id) -> u32 {
     let count = number_at(region, PENDING);
     if place_of(region, consumer).is_err() && usize::from(region[CONSUMERS]) == MOST_CONSUMERS {
         return 12;
@@ -197,6 +209,11 @@ pub fn acknowledge(region: &mut [u8], id: Id) -> u64 {
     if !is_sound(region) {
         return 2;
     }
+    acknowledge_in(region, id)
+}
+
+/// The number of entries that went, of a region that is in order.
+pub(crate) fn acknowledge_in(region: &mut [u8], id: Id) -> u64 {
     let Some(entry) = entry_of(region, id) else {
         return 0;
     };
@@ -214,20 +231,38 @@ pub fn claim(region: &mut [u8], consumer: &[u8], least_idle: u64, id: Id, now: u
     if !is_name(consumer) {
         return 3;
     }
+    claim_in(region, consumer, least_idle, id, now)
+}
+
+/// Claim in a region that is in order: 12, 34 or 0.
+pub(crate) fn claim_in(region: &mut [u8], consumer: &[u8], least_idle: u64, id: Id, now: u64) -> u32 {
     let Some(entry) = entry_of(region, id) else {
         return 34;
     };
-    let row = &region[ENTRIES + entry * ENTRY..][..ENTRY];
-    let time = u64::from_le_bytes(row[TIME..COUNT].try_into().expect("8 bytes"));
-    let count = (number_at(row, COUNT) as u16).saturating_add(1);
+    let (time, count) = time_and_count(&region[ENTRIES + entry * ENTRY..]);
     if now.saturating_sub(time) < least_idle {
         return 34;
     }
     let Some(place) = make_consumer(region, consumer) else {
         return 12;
     };
-    write_entry(region, entry, id, place, now, count);
+    write_entry(region, entry, id, place, now, count.saturating_add(1));
     0
+}
+
+fn time_and_count(entry: &[u8]) -> (u64, u16) {
+    let time = u64::from_le_bytes(entry[TIME..COUNT].try_into().expect("8 bytes"));
+    (time, number_at(entry, COUNT) as u16)
+}
+
+/// The consumer's first entry above an ID: its ID, time and count.
+pub(crate) fn next_pending(region: &[u8], consumer: &[u8], after: Id) -> Option<(Id, u64, u16)> {
+    let place = place_of(region, consumer).ok()?;
+    let entries = region[ENTRIES..].chunks_exact(ENTRY).take(number_at(region, PENDING));
+    let mut own = entries.filter(|entry| usize::from(entry[PLACE]) == place);
+    let entry = own.find(|entry| id_at(entry, 0) > after)?;
+    let (time, count) = time_and_count(entry);
+    Some((id_at(entry, 0), time, count))
 }
 
 /// One and the number of entries that went; 0 for a region that is not sound.
@@ -235,8 +270,13 @@ pub fn drop_consumer(region: &mut [u8], consumer: &[u8]) -> u64 {
     if !is_sound(region) {
         return 0;
     }
+    1 + drop_in(region, consumer)
+}
+
+/// The number of entries that went, of a region that is in order.
+pub(crate) fn drop_in(region: &mut [u8], consumer: &[u8]) -> u64 {
     let Ok(place) = place_of(region, consumer) else {
-        return 1;
+        return 0;
     };
     let count = number_at(region, PENDING);
     let mut kept = 0;
@@ -255,11 +295,11 @@ pub fn drop_consumer(region: &mut [u8], consumer: &[u8]) -> u64 {
     region.copy_within(at + FIELD..end, at);
     region[end - FIELD..end].fill(0);
     region[CONSUMERS] -= 1;
-    1 + (count - kept) as u64
+    (count - kept) as u64
 }
 
 /// The region of a group's name, or the one that it would get.
-fn region_of(area: &[u8], name: &[u8]) -> Result<usize, usize> {
+pub(crate) fn region_of(area: &[u8], name: &[u8]) -> Result<usize, usize> {
     let mut place = 0;
     for region in area.chunks_exact(REGION_BYTES).take_while(|region| region[0] != 0) {
         let other = &region[1..1 + usize::from(region[0])];
@@ -275,6 +315,11 @@ pub fn create(area: &mut [u8], name: &[u8], start: Id) -> u32 {
     if !judge(area, Id::GREATEST) {
         return 2;
     }
+    create_in(area, name, start)
+}
+
+/// Create in an area that is in order: 3, 10, 11 or 0.
+pub(crate) fn create_in(area: &mut [u8], name: &[u8], start: Id) -> u32 {
     if !is_name(name) {
         return 3;
     }
@@ -299,6 +344,11 @@ pub fn destroy(area: &mut [u8], name: &[u8]) -> u32 {
     if !judge(area, Id::GREATEST) {
         return 2;
     }
+    destroy_in(area, name)
+}
+
+/// Destroy in an area that is in order: 9 or 0.
+pub(crate) fn destroy_in(area: &mut [u8], name: &[u8]) -> u32 {
     let Ok(place) = region_of(area, name) else {
         return 9;
     };
@@ -306,4 +356,66 @@ pub fn destroy(area: &mut [u8], name: &[u8]) -> u32 {
     area.copy_within((place + 1) * REGION_BYTES.., place * REGION_BYTES);
     area[last..].fill(0);
     0
+}
+
+/// The length of a group's body in a snapshot, of a region that is in order.
+pub(crate) fn body_length(region: &[u8]) -> usize {
+    let names: usize = consumers(region).map(|name| 1 + name.len()).sum();
+    1 + usize::from(region[0]) + 16 + 1 + names + 2 + number_at(region, PENDING) * ENTRY
+}
+
+/// Writes the body of that length: the region without its unused bytes.
+pub(crate) fn write_body(region: &[u8], body: &mut [u8]) {
+    let mut at = 0;
+    let mut put = |bytes: &[u8]| {
+        body[at..at + bytes.len()].copy_from_slice(bytes);
+        at += bytes.len();
+    };
+    put(&region[..1 + usize::from(region[0])]);
+    put(&region[DELIVERED..FIELDS]);
+    for name in consumers(region) {
+        put(&[name.len() as u8]);
+        put(name);
+    }
+    put(&region[PENDING..ENTRIES + number_at(region, PENDING) * ENTRY]);
+}
+
+/// The name that starts the slice, with its length before it, and what follows.
+fn split_name(bytes: &[u8]) -> Option<(&[u8], &[u8])> {
+    let (&length, rest) = bytes.split_first()?;
+    let (name, rest) = rest.split_at_checked(usize::from(length))?;
+    is_name(name).then_some((name, rest))
+}
+
+/// The group's name, if the body is that of a group with no pending ID above the last ID.
+pub(crate) fn name_of_body(body: &[u8], last: Id) -> Option<&[u8]> {
+    let (name, rest) = split_name(body)?;
+    let (head, mut rest) = rest.split_at_checked(17)?;
+    let consumers = usize::from(head[16]);
+    let mut above: &[u8] = &[];
+    for _ in 0..consumers {
+        let (consumer, after) = split_name(rest)?;
+        if consumer <= above {
+            return None;
+        }
+        (above, rest) = (consumer, after);
+    }
+    let (count, entries) = rest.split_first_chunk::<2>()?;
+    let count = usize::from(u16::from_le_bytes(*count));
+    let fits = consumers <= MOST_CONSUMERS && count <= MOST_PENDING && entries.len() == count * ENTRY;
+    (fits && rise(entries, consumers, id_at(head, 0).min(last))).then_some(name)
+}
+
+/// Makes a region that is all zero the one of a body that is in order.
+pub(crate) fn write_region(body: &[u8], region: &mut [u8]) {
+    let length = 1 + usize::from(body[0]);
+    region[..length].copy_from_slice(&body[..length]);
+    region[DELIVERED..FIELDS].copy_from_slice(&body[length..length + 17]);
+    let mut rest = &body[length + 17..];
+    for field in 0..usize::from(region[CONSUMERS]) {
+        let length = 1 + usize::from(rest[0]);
+        region[FIELDS + field * FIELD..][..length].copy_from_slice(&rest[..length]);
+        rest = &rest[length..];
+    }
+    region[PENDING..PENDING + rest.len()].copy_from_slice(rest);
 }

@@ -131,6 +131,77 @@ pub fn check(bytes: &[u8]) -> bool {
     rest == [END]
 }
 
+/// The size of an element that is in order.
+#[inline(always)]
+pub fn element_size(bytes: &[u8]) -> usize {
+    let first = bytes[0];
+    let body = match first {
+        0x00..=0x7F => return 2,
+        0x80..=0xBF => 1 + usize::from(first & 0x3F),
+        0xC0..=0xDF => return 3,
+        0xE0..=0xEF => 2 + (usize::from(first & 0x0F) << 8 | usize::from(bytes[1])),
+        0xF1 => return 4,
+        0xF2 => return 5,
+        0xF3 => return 6,
+        _ => return 10,
+    };
+    if body < 128 {
+        body + 1
+    } else {
+        body + 2
+    }
+}
+
+/// A number of two's complement, little-endian.
+#[inline]
+fn signed(bytes: &[u8]) -> i64 {
+    let fill = if bytes[bytes.len() - 1] & 0x80 == 0 { 0 } else { 0xFF };
+    let mut whole = [fill; 8];
+    whole[..bytes.len()].copy_from_slice(bytes);
+    i64::from_le_bytes(whole)
+}
+
+/// An integer that is in order, and the place after it.
+#[inline(always)]
+pub fn integer_at(bytes: &[u8], at: usize) -> (i64, usize) {
+    let first = bytes[at];
+    match first {
+        0x00..=0x7F => (i64::from(first), at + 2),
+        0xC0..=0xDF => {
+            let pattern = u16::from(first) << 8 | u16::from(bytes[at + 1]);
+            (i64::from((pattern << 3) as i16 >> 3), at + 3)
+        }
+        _ => {
+            let next = at + element_size(&bytes[at..]);
+            (signed(&bytes[at + 1..next - 1]), next)
+        }
+    }
+}
+
+/// The size of an integer's element.
+#[inline]
+pub fn integer_size(number: i64) -> usize {
+    match number {
+        0..=127 => 2,
+        -4096..=4095 => 3,
+        _ if i64::from(number as i16) == number => 4,
+        _ if number << 40 >> 40 == number => 5,
+        _ if i64::from(number as i32) == number => 6,
+        _ => 10,
+    }
+}
+
+/// The size of a string's element.
+#[inline]
+pub fn string_size(string: &[u8]) -> usize {
+    if let Some(number) = integer(string) {
+        return integer_size(number);
+    }
+    let length = string.len();
+    let body = if length < 64 { 1 + length } else { 2 + length };
+    body + if body < 128 { 1 } else { 2 }
+}
+
 /// Writes an integer's element at the start of the slice, unless it is too small; the element's size.
 #[inline(always)]
 pub fn write_integer(out: &mut [u8], number: i64) -> Option<usize> {

@@ -1,0 +1,232 @@
+//! Measures the proved store beside the plain one, in one run.
+//!
+//! `cargo bench` prints times, `cargo bench -- instructions` counts of executed instructions (it runs itself under valgrind), both as
+//! tables of docs/PERFORMANCE.md. Each call is one on a fresh copy of store and state, made before the clock starts. What a command costs
+//! beyond the judgement is what it costs more than a command that is refused once store and state are judged.
+
+#[path = "../../tests/store/lent.rs"]
+#[allow(dead_code)]
+mod lent;
+#[path = "../../tests/store/sides.rs"]
+mod sides;
+mod stores;
+
+use std::hint::black_box;
+use std::process;
+use std::time::Instant;
+
+use lent::Lent;
+use measure::median;
+use sides::{Call, Values};
+use stores::{reading, Fill, FILLS, LENGTH};
+use wallathi_model::id::Id;
+use wallathi_model::ledger::{Command, Store};
+use wallathi_model::slip;
+
+const SAMPLES: usize = 301;
+/// Calls whose instructions are counted.
+const CALLS: usize = 4;
+const SIDES: [(&str, Call); 2] = [("proved", sides::proved), ("plain", sides::plain)];
+/// The room of an output: a snapshot's.
+const ROOM: usize = 321_540;
+
+/// What is measured of a store: a name and the command. The first is the judgement alone.
+fn commands(fill: &Fill) -> Vec<(&'static str, Command)> {
+    let (id, middle) = (fill.new_id(), fill.middle());
+    let (group, consumer, now) = (fill.group(), fill.consumer(), id.ms * 2);
+    let slip = slip::write(&reading(fill.messages()));
+    let long = slip::write(&vec![(b"trace".to_vec(), vec![b'x'; 1_000]); 3]);
+    let mut commands = vec![
+        ("judgement", Command::CreateGroup { group: vec![], start: Id::LEAST }),
+        ("add", Command::Add { id, slip: slip.clone() }),
+        ("add by clock", Command::AddByClock { time: id.ms, slip }),
+        ("delete", Command::Delete { id: middle }),
+        ("trim by 10", Command::Trim { keep: fill.messages().saturating_sub(10) }),
+        ("trim to half", Command::Trim { keep: fill.messages() / 2 }),
+        ("next", Command::Next { id: middle }),
+        ("read", Command::Read { id: middle, room: ROOM }),
+        ("field", Command::Field { id: middle, name: b"note".to_vec(), room: ROOM }),
+        ("group read", Command::GroupRead { group: fill.open_group(), consumer: consumer.clone(), now }),
+        ("acknowledge", Command::Acknowledge { group: group.clone(), id: fill.pending() }),
+        (
+            "claim",
+            Command::Claim {
+                group: group.clone(),
+                consumer: consumer.clone(),
+                least_idle: 1,
+                id: fill.pending(),
+                now,
+            },
+        ),
+        ("next pending", Command::NextPending { group, consumer, after: Id::new(fill.pending().ms - 1, 0) }),
+        ("save", Command::Save { room: ROOM }),
+        ("load", Command::Load { file: Bench::new(fill).saved() }),
+    ];
+    if fill.messages() <= 100 * 63 {
+        commands.insert(2, ("add, a new node", Command::Add { id, slip: long }));
+    }
+    commands
+}
+
+/// Store and state with a copy that calls work on.
+struct Bench {
+    fresh: Lent,
+    lent: Lent,
+    values: Values,
+    output: Vec<u8>,
+}
+
+impl Bench {
+    fn new(fill: &Fill) -> Bench {
+        let fresh = Lent::image(&fill.model(), LENGTH);
+        Bench { lent: fresh.clone(), fresh, values: [0; 5], output: vec![0; ROOM] }
+    }
+
+    fn copy(&mut self) {
+        let (store, state) = self.lent.both();
+        store.copy_from_slice(self.fresh.store());
+        state.copy_from_slice(self.fresh.state());
+    }
+
+    fn call(&mut self, call: Call, command: &Command) -> u32 {
+        let (store, state) = self.lent.both();
+        call(store, state, black_box(command), &mut self.values, &mut self.output)
+    }
+
+    /// The store's snapshot. The plain side makes it, as the model is slow at it.
+    fn saved(mut self) -> Vec<u8> {
+        self.call(sides::plain, &Command::Save { room: ROOM });
+        self.output.truncate(self.values[0] as usize);
+        self.output
+    }
+
+    /// The time of a call in ns.
+    fn time(&mut self, call: Call, command: &Command) -> f64 {
+        self.copy();
+        let start = Instant::now();
+        black_box(self.call(call, command));
+        start.elapsed().as_nanos() as f64
+    }
+}
+
+/// A figure with commas between thousands.
+fn grouped(figure: f64) -> String {
+    let digits = format!("{:.0}", figure.max(0.0));
+    let places = digits.char_indices();
+    places.fold(String::new(), |mut text, (place, digit)| {
+        if place > 0 && (digits.len() - place) % 3 == 0 {
+            text.push(',');
+        }
+        text.push(digit);
+        text
+    })
+}
+
+/// A table of each command on each store. `figures` gives a command's two figures, proved and plain, and `told` what a row says of
+/// them beside those of the judgement.
+fn report(
+    head: &str,
+    figures: impl Fn(usize, usize) -> [f64; 2],
+    told: impl Fn([f64; 2], [f64; 2]) -> String,
+) {
+    println!("{head}");
+    println!("|{}", "---|".repeat(head.matches('|').count() - 1));
+    for (store, fill) in FILLS.iter().enumerate() {
+        let judgement = figures(store, 0);
+        for (number, (name, _)) in commands(fill).iter().enumerate() {
+            let both = if number == 0 { judgement } else { figures(store, number) };
+            // Load judges no store.
+            let beyond = if *name == "load" { [0.0; 2] } else { judgement };
+            println!("| {name}, {} | {} |", fill.name, told(both, beyond));
+        }
+    }
+}
+
+/// Samples of the two alternate, so that what disturbs the machine disturbs both.
+fn time() {
+    let figures = |store: usize, number: usize| {
+        let mut bench = Bench::new(&FILLS[store]);
+        let (_, command) = commands(&FILLS[store]).swap_remove(number);
+        let mut samples = [vec![], vec![]];
+        for _ in 0..SAMPLES {
+            for (samples, (_, call)) in samples.iter_mut().zip(SIDES) {
+                samples.push(bench.time(call, &command));
+            }
+        }
+        samples.map(|mut samples| median(&mut samples))
+    };
+    let bytes = (LENGTH + wallathi::raw::STATE_BYTES) as f64;
+    let told = |[proved, plain]: [f64; 2], [judged, _]: [f64; 2]| {
+        let speed = if judged == proved { format!("{:.0}", bytes / proved * 1_000.0) } else { String::new() };
+        format!("{:.1} | {:.1} | {:.2} | {speed}", proved / 1_000.0, plain / 1_000.0, proved / plain)
+    };
+    report("| | proved, µs | plain Rust, µs | ratio | MB judged a second |", figures, told);
+}
+
+fn instructions() {
+    let figures = |store: usize, number: usize| {
+        let run = |side: usize, calls: usize| {
+            let words = [store, number, side, calls].map(|word: usize| word.to_string());
+            measure::instructions_of(&[&["run"], &words.each_ref().map(String::as_str)[..]].concat())
+        };
+        [0, 1].map(|side| (run(side, CALLS) - run(side, 0)) / CALLS as f64)
+    };
+    let told = |[proved, plain]: [f64; 2], [judged, plain_judged]: [f64; 2]| {
+        let own = if judged == proved {
+            ["".to_string(), "".to_string()]
+        } else {
+            [grouped(proved - judged), grouped(plain - plain_judged)]
+        };
+        let ratio = proved / plain;
+        format!("{} | {} | {ratio:.2} | {} | {}", grouped(proved), grouped(plain), own[0], own[1])
+    };
+    report("| | proved | plain Rust | ratio | beyond the judgement: proved | plain Rust |", figures, told);
+}
+
+/// So many calls of a side, to be counted; the copies are made in any case.
+fn run_one(store: usize, number: usize, side: usize, calls: usize) {
+    let mut bench = Bench::new(&FILLS[store]);
+    let (_, command) = commands(&FILLS[store]).swap_remove(number);
+    for call in 0..CALLS {
+        bench.copy();
+        if call < calls {
+            black_box(bench.call(SIDES[side].1, &command));
+        }
+    }
+}
+
+/// The sides answer as the model, and leave what it says.
+fn compare() {
+    for fill in &FILLS {
+        for (name, command) in commands(fill) {
+            let mut model = Store { length: LENGTH, model: Some(fill.model()) };
+            let code = model.run(&command).code();
+            for (side, call) in SIDES {
+                let mut bench = Bench::new(fill);
+                assert_eq!(bench.call(call, &command), code, "{side}: {name}, {}", fill.name);
+                assert!(bench.lent.read() == model.model, "{side}: {name}, {}", fill.name);
+            }
+        }
+    }
+}
+
+fn main() {
+    // `cargo bench` adds a word of its own.
+    let words: Vec<String> = std::env::args().skip(1).filter(|word| word != "--bench").collect();
+    match words.iter().map(String::as_str).collect::<Vec<_>>()[..] {
+        [] => {
+            compare();
+            time();
+        }
+        ["compare"] => compare(),
+        ["instructions"] => instructions(),
+        ["run", store, number, side, calls] => {
+            let number_of = |word: &str| word.parse().expect("a number");
+            run_one(number_of(store), number_of(number), number_of(side), number_of(calls));
+        }
+        _ => {
+            eprintln!("usage: cargo bench [-- instructions | -- compare]");
+            process::exit(2);
+        }
+    }
+}

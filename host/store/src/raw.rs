@@ -1,0 +1,490 @@
+//! The functions of the C library on lent slices, one for one. All `unsafe` code of this crate is here.
+//!
+//! Each answers [`OK`], [`NONE`], [`ABSENT`], [`NOT_MOVED`] or the number of a refusal (`host/include/wallathi.h` has them), and
+//! changes nothing unless it answers [`OK`]. A state has [`STATE_BYTES`] bytes. The numbers that a command gives are written to
+//! `values`, in the header's order.
+
+/// Answered, done, moved: what is lent to be written is written.
+pub const OK: u32 = 0;
+/// There is none, or nothing new.
+pub const NONE: u32 = 32;
+/// The message does not have the field.
+pub const ABSENT: u32 = 33;
+/// The claim moved nothing.
+pub const NOT_MOVED: u32 = 34;
+/// The size of a state.
+pub const STATE_BYTES: usize = 64_434;
+
+/// A state, as lent.
+pub type State = [u8; STATE_BYTES];
+
+/// The functions themselves.
+pub mod c {
+    #![allow(missing_docs)]
+    extern "C" {
+        pub fn wallathi_state_bytes() -> u64;
+        pub fn wallathi_set_up(store: *mut u8, store_length: usize, state: *mut u8) -> u32;
+        pub fn wallathi_add(
+            store: *mut u8,
+            store_length: usize,
+            state: *mut u8,
+            ms: u64,
+            seq: u64,
+            slip: *const u8,
+            slip_length: usize,
+            id_ms: *mut u64,
+            id_seq: *mut u64,
+        ) -> u32;
+        pub fn wallathi_add_by_clock(
+            store: *mut u8,
+            store_length: usize,
+            state: *mut u8,
+            time: u64,
+            slip: *const u8,
+            slip_length: usize,
+            id_ms: *mut u64,
+            id_seq: *mut u64,
+        ) -> u32;
+        pub fn wallathi_delete(
+            store: *mut u8,
+            store_length: usize,
+            state: *mut u8,
+            ms: u64,
+            seq: u64,
+            count: *mut u64,
+        ) -> u32;
+        pub fn wallathi_trim(
+            store: *mut u8,
+            store_length: usize,
+            state: *mut u8,
+            most: u64,
+            count: *mut u64,
+        ) -> u32;
+        pub fn wallathi_next(
+            store: *const u8,
+            store_length: usize,
+            state: *const u8,
+            ms: u64,
+            seq: u64,
+            id_ms: *mut u64,
+            id_seq: *mut u64,
+        ) -> u32;
+        pub fn wallathi_read(
+            store: *const u8,
+            store_length: usize,
+            state: *const u8,
+            ms: u64,
+            seq: u64,
+            output: *mut u8,
+            output_length: usize,
+            written: *mut u64,
+        ) -> u32;
+        pub fn wallathi_field(
+            store: *const u8,
+            store_length: usize,
+            state: *const u8,
+            ms: u64,
+            seq: u64,
+            name: *const u8,
+            name_length: usize,
+            output: *mut u8,
+            output_length: usize,
+            written: *mut u64,
+        ) -> u32;
+        pub fn wallathi_create_group(
+            store: *const u8,
+            store_length: usize,
+            state: *mut u8,
+            group: *const u8,
+            group_length: usize,
+            start_ms: u64,
+            start_seq: u64,
+        ) -> u32;
+        pub fn wallathi_destroy_group(
+            store: *const u8,
+            store_length: usize,
+            state: *mut u8,
+            group: *const u8,
+            group_length: usize,
+        ) -> u32;
+        pub fn wallathi_group_read(
+            store: *const u8,
+            store_length: usize,
+            state: *mut u8,
+            group: *const u8,
+            group_length: usize,
+            consumer: *const u8,
+            consumer_length: usize,
+            now: u64,
+            id_ms: *mut u64,
+            id_seq: *mut u64,
+        ) -> u32;
+        pub fn wallathi_acknowledge(
+            store: *const u8,
+            store_length: usize,
+            state: *mut u8,
+            group: *const u8,
+            group_length: usize,
+            ms: u64,
+            seq: u64,
+            count: *mut u64,
+        ) -> u32;
+        pub fn wallathi_claim(
+            store: *const u8,
+            store_length: usize,
+            state: *mut u8,
+            group: *const u8,
+            group_length: usize,
+            consumer: *const u8,
+            consumer_length: usize,
+            least_idle: u64,
+            ms: u64,
+            seq: u64,
+            now: u64,
+        ) -> u32;
+        pub fn wallathi_next_pending(
+            store: *const u8,
+            store_length: usize,
+            state: *const u8,
+            group: *const u8,
+            group_length: usize,
+            consumer: *const u8,
+            consumer_length: usize,
+            after_ms: u64,
+            after_seq: u64,
+            id_ms: *mut u64,
+            id_seq: *mut u64,
+            time: *mut u64,
+            count: *mut u64,
+            lives: *mut u64,
+        ) -> u32;
+        pub fn wallathi_drop_consumer(
+            store: *const u8,
+            store_length: usize,
+            state: *mut u8,
+            group: *const u8,
+            group_length: usize,
+            consumer: *const u8,
+            consumer_length: usize,
+            count: *mut u64,
+        ) -> u32;
+        pub fn wallathi_save(
+            store: *const u8,
+            store_length: usize,
+            state: *const u8,
+            output: *mut u8,
+            output_length: usize,
+            written: *mut u64,
+        ) -> u32;
+        pub fn wallathi_load(
+            store: *mut u8,
+            store_length: usize,
+            state: *mut u8,
+            file: *const u8,
+            file_length: usize,
+        ) -> u32;
+    }
+}
+
+// In every call below, pointers and lengths are those of slices or of one number, a state is as long as the library takes it to be by
+// its type, and the borrow rules keep what is written apart from all else.
+
+/// How many bytes a state has.
+pub fn state_bytes() -> u64 {
+    // SAFETY: it takes nothing and answers a number.
+    unsafe { c::wallathi_state_bytes() }
+}
+
+/// Makes the store one without messages and groups, whatever the bytes were.
+pub fn set_up(store: &mut [u8], state: &mut State) -> u32 {
+    // SAFETY: see above.
+    unsafe { c::wallathi_set_up(store.as_mut_ptr(), store.len(), state.as_mut_ptr()) }
+}
+
+/// Adds a message with an ID above the last one.
+pub fn add(
+    store: &mut [u8],
+    state: &mut State,
+    ms: u64,
+    seq: u64,
+    slip: &[u8],
+    values: &mut [u64; 2],
+) -> u32 {
+    let [id_ms, id_seq] = values;
+    // SAFETY: see above.
+    unsafe {
+        c::wallathi_add(
+            store.as_mut_ptr(),
+            store.len(),
+            state.as_mut_ptr(),
+            ms,
+            seq,
+            slip.as_ptr(),
+            slip.len(),
+            id_ms,
+            id_seq,
+        )
+    }
+}
+
+/// Adds a message at a time in ms.
+pub fn add_by_clock(
+    store: &mut [u8],
+    state: &mut State,
+    time: u64,
+    slip: &[u8],
+    values: &mut [u64; 2],
+) -> u32 {
+    let [id_ms, id_seq] = values;
+    // SAFETY: see above.
+    unsafe {
+        c::wallathi_add_by_clock(
+            store.as_mut_ptr(),
+            store.len(),
+            state.as_mut_ptr(),
+            time,
+            slip.as_ptr(),
+            slip.len(),
+            id_ms,
+            id_seq,
+        )
+    }
+}
+
+/// Deletes a message; the count is 1, or 0 where the ID is not live.
+pub fn delete(store: &mut [u8], state: &mut State, ms: u64, seq: u64, count: &mut u64) -> u32 {
+    // SAFETY: see above.
+    unsafe { c::wallathi_delete(store.as_mut_ptr(), store.len(), state.as_mut_ptr(), ms, seq, count) }
+}
+
+/// Deletes the oldest messages until at most so many remain; the count is how many went.
+pub fn trim(store: &mut [u8], state: &mut State, most: u64, count: &mut u64) -> u32 {
+    // SAFETY: see above.
+    unsafe { c::wallathi_trim(store.as_mut_ptr(), store.len(), state.as_mut_ptr(), most, count) }
+}
+
+/// The first live ID that is the given one or comes after it.
+pub fn next(store: &[u8], state: &State, ms: u64, seq: u64, values: &mut [u64; 2]) -> u32 {
+    let [id_ms, id_seq] = values;
+    // SAFETY: see above.
+    unsafe { c::wallathi_next(store.as_ptr(), store.len(), state.as_ptr(), ms, seq, id_ms, id_seq) }
+}
+
+/// Writes a live message as a slip to the start of the output.
+pub fn read(store: &[u8], state: &State, ms: u64, seq: u64, output: &mut [u8], written: &mut u64) -> u32 {
+    // SAFETY: see above.
+    unsafe {
+        c::wallathi_read(
+            store.as_ptr(),
+            store.len(),
+            state.as_ptr(),
+            ms,
+            seq,
+            output.as_mut_ptr(),
+            output.len(),
+            written,
+        )
+    }
+}
+
+/// Writes the value of the first pair with this field name.
+pub fn field(
+    store: &[u8],
+    state: &State,
+    ms: u64,
+    seq: u64,
+    name: &[u8],
+    output: &mut [u8],
+    written: &mut u64,
+) -> u32 {
+    // SAFETY: see above.
+    unsafe {
+        c::wallathi_field(
+            store.as_ptr(),
+            store.len(),
+            state.as_ptr(),
+            ms,
+            seq,
+            name.as_ptr(),
+            name.len(),
+            output.as_mut_ptr(),
+            output.len(),
+            written,
+        )
+    }
+}
+
+/// Creates a group that has what comes after the start ID delivered.
+pub fn create_group(store: &[u8], state: &mut State, group: &[u8], start_ms: u64, start_seq: u64) -> u32 {
+    // SAFETY: see above.
+    unsafe {
+        c::wallathi_create_group(
+            store.as_ptr(),
+            store.len(),
+            state.as_mut_ptr(),
+            group.as_ptr(),
+            group.len(),
+            start_ms,
+            start_seq,
+        )
+    }
+}
+
+/// Destroys a group with its consumers and pending entries.
+pub fn destroy_group(store: &[u8], state: &mut State, group: &[u8]) -> u32 {
+    // SAFETY: see above.
+    unsafe {
+        c::wallathi_destroy_group(
+            store.as_ptr(),
+            store.len(),
+            state.as_mut_ptr(),
+            group.as_ptr(),
+            group.len(),
+        )
+    }
+}
+
+/// Delivers the first live message above the last delivered one to a consumer.
+pub fn group_read(
+    store: &[u8],
+    state: &mut State,
+    group: &[u8],
+    consumer: &[u8],
+    now: u64,
+    values: &mut [u64; 2],
+) -> u32 {
+    let [id_ms, id_seq] = values;
+    // SAFETY: see above.
+    unsafe {
+        c::wallathi_group_read(
+            store.as_ptr(),
+            store.len(),
+            state.as_mut_ptr(),
+            group.as_ptr(),
+            group.len(),
+            consumer.as_ptr(),
+            consumer.len(),
+            now,
+            id_ms,
+            id_seq,
+        )
+    }
+}
+
+/// Removes a pending entry; the count is 1, or 0 where the ID is not pending.
+pub fn acknowledge(store: &[u8], state: &mut State, group: &[u8], ms: u64, seq: u64, count: &mut u64) -> u32 {
+    // SAFETY: see above.
+    unsafe {
+        c::wallathi_acknowledge(
+            store.as_ptr(),
+            store.len(),
+            state.as_mut_ptr(),
+            group.as_ptr(),
+            group.len(),
+            ms,
+            seq,
+            count,
+        )
+    }
+}
+
+/// Moves a pending entry to a consumer, where it is idle for long enough.
+pub fn claim(
+    store: &[u8],
+    state: &mut State,
+    group: &[u8],
+    consumer: &[u8],
+    least_idle: u64,
+    ms: u64,
+    seq: u64,
+    now: u64,
+) -> u32 {
+    // SAFETY: see above.
+    unsafe {
+        c::wallathi_claim(
+            store.as_ptr(),
+            store.len(),
+            state.as_mut_ptr(),
+            group.as_ptr(),
+            group.len(),
+            consumer.as_ptr(),
+            consumer.len(),
+            least_idle,
+            ms,
+            seq,
+            now,
+        )
+    }
+}
+
+/// A consumer's first pending entry above an ID, and whether its message lives.
+pub fn next_pending(
+    store: &[u8],
+    state: &State,
+    group: &[u8],
+    consumer: &[u8],
+    after_ms: u64,
+    after_seq: u64,
+    values: &mut [u64; 5],
+) -> u32 {
+    let [id_ms, id_seq, time, count, lives] = values;
+    // SAFETY: see above.
+    unsafe {
+        c::wallathi_next_pending(
+            store.as_ptr(),
+            store.len(),
+            state.as_ptr(),
+            group.as_ptr(),
+            group.len(),
+            consumer.as_ptr(),
+            consumer.len(),
+            after_ms,
+            after_seq,
+            id_ms,
+            id_seq,
+            time,
+            count,
+            lives,
+        )
+    }
+}
+
+/// Removes a consumer; the count is how many entries went.
+pub fn drop_consumer(store: &[u8], state: &mut State, group: &[u8], consumer: &[u8], count: &mut u64) -> u32 {
+    // SAFETY: see above.
+    unsafe {
+        c::wallathi_drop_consumer(
+            store.as_ptr(),
+            store.len(),
+            state.as_mut_ptr(),
+            group.as_ptr(),
+            group.len(),
+            consumer.as_ptr(),
+            consumer.len(),
+            count,
+        )
+    }
+}
+
+/// Writes a snapshot to the start of the output.
+pub fn save(store: &[u8], state: &State, output: &mut [u8], written: &mut u64) -> u32 {
+    // SAFETY: see above.
+    unsafe {
+        c::wallathi_save(
+            store.as_ptr(),
+            store.len(),
+            state.as_ptr(),
+            output.as_mut_ptr(),
+            output.len(),
+            written,
+        )
+    }
+}
+
+/// Makes the store hold what a snapshot holds, whatever the bytes were.
+pub fn load(store: &mut [u8], state: &mut State, file: &[u8]) -> u32 {
+    // SAFETY: see above.
+    unsafe {
+        c::wallathi_load(store.as_mut_ptr(), store.len(), state.as_mut_ptr(), file.as_ptr(), file.len())
+    }
+}
