@@ -10,7 +10,7 @@
 --   Slips       a message of a ledger is a slip of 5,353 bytes at most
 pub use Rattle.snapshot.proofs.Table.{length-contents, length-file, read-file, FileRead, file-read}
 pub use Rattle.snapshot.proofs.Rows.{RowAt, FileRows, file-rows}
-pub use Rattle.snapshot.proofs.Parts.{cut-parts, parts-of, bodies-join, contents-join, cut-size, snapshot-size}
+pub use Rattle.snapshot.proofs.Parts.{cut-parts, parts-of, bodies-join, contents-join, cut-length, cut-size, snapshot-size}
 pub use Rattle.snapshot.proofs.Sizes.{body-most, parts-count, bodies-most, snapshot-most}
 pub use Rattle.snapshot.proofs.Snapshots.{snapshot-parse, SnapshotOf, parse-snapshot, snapshot-injective}
 pub use Rattle.snapshot.proofs.Judged.{node-in, snapshot-judge, judge-snapshot, judge-is}

@@ -47,16 +47,13 @@ contents-join offset (p ∷ ps) qs =
     ∙ ap (λ (l : List ℕ). p .kind ∷ l) (sym (append-assoc (le 4 offset) (le 4 s ++ contents (offset + s) ps) (contents (offset + length (p .body ++ bodies ps)) qs)))
 
 -- how many bytes a node takes, and a snapshot
+pub cut-length : (es : List Entry) → length (cutPart es .body) ≡ 16 + nodeSize es
+cut-length es =
+    omega (arith, length-append (idBytes (keyOf es)) (nodeBytes es), length-id-bytes (keyOf es), node-size es)
+
 pub cut-size : (es : List Entry) (ess : List (List Entry)) → length (bodies (map cutPart (es ∷ ess))) ≡ 16 + nodeSize es + length (bodies (map cutPart ess))
 unfolding bodies
-cut-size es ess =
-    omega (
-      arith,
-      length-append (idBytes (keyOf es) ++ nodeBytes es) (bodies (map cutPart ess)),
-      length-append (idBytes (keyOf es)) (nodeBytes es),
-      length-id-bytes (keyOf es),
-      node-size es,
-    )
+cut-size es ess = omega (arith, length-append (cutPart es .body) (bodies (map cutPart ess)), cut-length es)
 
 pub snapshot-size : (l : Ledger)
     → length (snapshotOf l) ≡ 28 + 9 * (length (cut (l .messages)) + length (l .groups)) + length (bodies (map cutPart (cut (l .messages)))) + length (bodies (map groupPart (l .groups)))
