@@ -4,4 +4,5 @@
 mod consumers;
 mod messages;
 mod reading;
+mod snapshots;
 mod telling;

@@ -1,0 +1,23 @@
+// The snapshot of what a store holds, and a store made of one.
+
+ghost use mathlib.Core.Path.{_≡_};
+ghost use mathlib.Core.List.{[], _∷_};
+ghost use Rattle.stream.specs.Promise.{lent};
+ghost use Rattle.snapshot.specs.Command.{save, load};
+ghost use Rattle.wallathi.specs.Export.{seen};
+ghost use Rattle.wallathi.specs.Run.{call, Meets};
+use crate::telling;
+
+#[no_mangle]
+pub extern "C" fn wallathi_save(store: &[u8], state: &[u8; 64434], out: &mut [u8], len: &mut u64) -> u32
+    ensures { λ r. ⌜ Meets (call save (now (len .entry) ∷ []) (now (out .entry))) (lent (now (store .entry)) (now (state .entry))) (seen r (now (len .exit) ∷ []) (now (out .exit))) (lent (now (store .entry)) (now (state .entry))) ⌝ }
+{
+    telling::tell_number(stream_save::save(store, state, out), len)
+}
+
+#[no_mangle]
+pub extern "C" fn wallathi_load(store: &mut [u8], state: &mut [u8; 64434], file: &[u8]) -> u32
+    ensures { λ r. ⌜ Meets (call (λ _. load (now (file .entry))) [] []) (lent (now (store .entry)) (now (state .entry))) (seen r [] []) (lent (now (store .exit)) (now (state .exit))) ⌝ }
+{
+    telling::tell(stream_load::load(store, state, file))
+}
