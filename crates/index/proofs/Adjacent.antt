@@ -3,7 +3,7 @@ use mathlib.Core.Bool.{true, false, true≢false}
 use mathlib.Core.Path.{_≡_, sym, ap, _∙_}
 use mathlib.Core.List.{List, []}
 use mathlib.Core.Option.{Option, some, none}
-use Prim.Native.Nat.{ℕ}
+use Prim.Native.Nat.{ℕ, _<_}
 use lib.ListN.{getD}
 use Rattle.keys.specs.Entries.{Entry, isKey, firstFrom, lastUpTo}
 use Rattle.keys.specs.Operation.{firstAtOrAbove, lastAtOrBelow, entryReply, refused, found, replyIn}
@@ -11,7 +11,7 @@ use Rattle.radix.specs.declared.Index.{Index}
 use Rattle.radix.specs.Shape.{Shape}
 use Rattle.radix.specs.Walk.{firstIn, lastIn}
 use Rattle.radix.specs.Record.{nodesOf, treeAt, entriesOf}
-use Rattle.radix.proofs.Laws.{holds}
+use Rattle.radix.proofs.Laws.{holds, root-within}
 use Rattle.radix_walk.specs.declared.near.Near.{Near}
 use Rattle.radix_walk.specs.Neighbours.{nearOf, cutKey}
 use Rattle.radix_walk.proofs.Laws.{near-first, near-last}
@@ -29,6 +29,10 @@ near-found n (some e) f h = ap (λ (y : Near). neighbourAs outcome.Found (y .len
 pub near-nothing : (n : Near) (e : Option Entry) → n .found ≡ false → n ≡ nearOf e → neighbourAs outcome.Nothing (n .len) (n .value) (n .key) ≡ neighbourOf (entryReply e)
 near-nothing n none f h = ap (λ (y : Near). neighbourAs outcome.Nothing (y .len) (y .value) (y .key)) h
 near-nothing n (some e) f h = absurd (true≢false (sym (ap (λ (y : Near). y .found) h) ∙ f))
+
+-- the root of a record that holds entries
+pub sound-root : (x : Index) → IsSound (entriesOf x) → x .root < 256
+sound-root x s = let (es, e) = sound-some (entriesOf x) s in root-within x (holds x es e .placed)
 
 -- the walk's tree is the record's
 tree-at : (x : Index) (t : Shape) (q first : ℕ) → treeAt 256 (nodesOf x) (getD (x .child) (x .root) 0) ≡ t → q ≡ x .root → first ≡ getD (x .child) q 0 → treeAt 256 (nodesOf x) first ≡ t

@@ -1,4 +1,3 @@
--- Laws is what callers cite; the others are its topics.
+-- Laws is what callers cite; the other is its topic.
 pub mod Laws
-pub mod Steps
 pub mod Adjacent

@@ -1,2 +1,1 @@
--- To be believed, after Entries and Operation of the crate keys, and Record of radix.
-pub mod Promise
+-- What the neighbours are is said in the crate keys, and in radix what a record holds.

@@ -1,4 +1,4 @@
-// The first key at or above a key, and the last at or below it. Refusals in rising order of their numbers: 2, then 3.
+// The first key at or above a key, and the last at or below it.
 
 ghost use mathlib.Core.Path.{_≡_};
 ghost use mathlib.Core.Option.{Option};
@@ -89,24 +89,4 @@ pub fn last_at_or_below_sound(x: Index, k: &[u8]) -> Neighbour
         first,
         k,
     ))
-}
-
-pub fn first_at_or_above(x: Index, k: &[u8]) -> Neighbour
-    ensures { λ r. ⌜ r ≡ neighbourOf (replyIn (firstAtOrAbove (now (k .entry))) (entriesOf x)) ⌝ }
-{
-    let l = radix::list(x);
-    if !l.ok {
-        return refusal(2);
-    }
-    first_at_or_above_sound(x, k)
-}
-
-pub fn last_at_or_below(x: Index, k: &[u8]) -> Neighbour
-    ensures { λ r. ⌜ r ≡ neighbourOf (replyIn (lastAtOrBelow (now (k .entry))) (entriesOf x)) ⌝ }
-{
-    let l = radix::list(x);
-    if !l.ok {
-        return refusal(2);
-    }
-    last_at_or_below_sound(x, k)
 }

@@ -1,6 +1,5 @@
 -- What an operation that may change the bytes promises, on the entries e that they hold (01, The index; refusal 2 where they hold none).
 -- Assumes nothing.
-use mathlib.Core.Bool.{Bool, true, false}
 use mathlib.Core.Path.{_≡_}
 use mathlib.Core.List.{List}
 use mathlib.Core.Option.{Option, some, none}
@@ -8,8 +7,6 @@ use Prim.Native.Nat.{ℕ}
 use Rattle.octets.specs.Pick.{pick}
 use Rattle.keys.specs.Entries.{Entry}
 use Rattle.keys.specs.Operation.{Operation, Reply, operate, isChange, replyIn, entriesAfter}
-use Rattle.radix.specs.declared.Index.{Index}
-use Rattle.radix_bytes.specs.Bytes.{bytesOf, recordFrom}
 use Rattle.index_bytes.specs.Held.{entriesIn, recordBytes}
 
 -- the bytes after an operation: written anew where the entries change, else as they were
@@ -22,8 +19,3 @@ pub record ChangesIn (o : Operation) (e : Option (List Entry)) (s : List ℕ) (a
   pub reply : a ≡ replyIn o e
   pub bytes-are : t ≡ bytesAfter o e s
   pub holds : entriesIn t ≡ entriesAfter o e
-
--- the record y as it was written, or was not
-abbrev pub Settled : Bool → List ℕ → List ℕ → Index → Type 0
-Settled true s t y = (t ≡ bytesOf y) × (recordFrom t ≡ y)
-Settled false s t y = t ≡ s

@@ -1,4 +1,5 @@
-// Operations that may write the bytes: all of them where the entries change, else none.
+// Operations that may write the bytes: all of them where the entries change, else none. Refusals in rising order of their numbers: 2, then
+// 3, then 18.
 
 ghost use mathlib.Core.Path.{_≡_};
 ghost use mathlib.Core.Bool.{true};
@@ -6,48 +7,26 @@ ghost use mathlib.Core.List.{[]};
 ghost use mathlib.Core.Option.{some};
 ghost use lib.ListN.{length};
 ghost use Rattle.keys.specs.Entries.{isMap};
-ghost use Rattle.keys.specs.Operation.{put, remove, isChange};
+ghost use Rattle.keys.specs.Operation.{put, remove};
 ghost use Rattle.keys.specs.Answer.{replyOf};
 ghost use Rattle.keys.specs.Table.{tabled};
 ghost use Rattle.keys.specs.Listing.{IsSound};
 ghost use Rattle.index_bytes.specs.Held.{recordSize, entriesIn, recordBytes};
-ghost use Rattle.index_bytes.specs.Promise.{Settled, ChangesIn};
-use index::Changed;
+ghost use Rattle.index_bytes.specs.Promise.{ChangesIn};
 use keys::Answer;
 use keys::Table;
-
-fn is_change(a: Answer) -> bool
-    ensures { λ r. ⌜ r ≡ isChange (replyOf a) ⌝ }
-{
-    match a {
-        Answer::Done => true,
-        Answer::Removed(n) => n != 0,
-        Answer::Held(_) => false,
-        Answer::Absent => false,
-        Answer::Refused(_) => false,
-    }
-}
-
-// The record is written where the entries changed.
-fn settle(bytes: &mut [u8], c: Changed) -> Answer
-    requires { ⌜ length (now bytes) ≡ recordSize ⌝ }
-    ensures { λ r. ⌜ (r ≡ c .answer) × Settled (isChange (replyOf (c .answer))) (now (bytes .entry)) (now (bytes .exit)) (c .index) ⌝ }
-{
-    let a = c.answer;
-    if !is_change(a) {
-        return a;
-    }
-    let y = c.index;
-    radix_bytes::to_bytes(y, bytes);
-    a
-}
+use keys::is_key;
+use keys::is_row;
+use keys::rank_of;
+use keys::with_row;
+use keys::without_row;
 
 // The record of no entries.
 pub fn empty(bytes: &mut [u8])
     requires { ⌜ length (now bytes) ≡ recordSize ⌝ }
     ensures { λ _. ⌜ (now (bytes .exit) ≡ recordBytes []) × (entriesIn (now (bytes .exit)) ≡ some []) ⌝ }
 {
-    radix_bytes::to_bytes(index::empty(), bytes);
+    build(keys::no_rows(), bytes);
 }
 
 // The record of a table's rows.
@@ -58,13 +37,54 @@ pub fn build(t: Table, bytes: &mut [u8])
     radix_bytes::to_bytes(radix::build(t), bytes);
 }
 
+// Put, where the table t has the entries of the bytes.
+fn put_in(bytes: &mut [u8], t: Table, key: &[u8], value: u32) -> Answer
+    requires { ⌜ (length (now bytes) ≡ recordSize) × (entriesIn (now bytes) ≡ some (tabled t)) ⌝ }
+    ensures { λ r. ⌜ ChangesIn (put (now (key .entry)) value) (some (tabled t)) (now (bytes .entry)) (replyOf r) (now (bytes .exit)) ⌝ }
+{
+    if !is_key(key) {
+        return Answer::Refused(3);
+    }
+    let n = t.n;
+    let i = rank_of(t, key);
+    if is_row(t, i, key) {
+        build(with_row(t, i, i + 1, key, value), bytes);
+        return Answer::Done;
+    }
+    if 64 <= n {
+        return Answer::Refused(18);
+    }
+    build(with_row(t, i, i, key, value), bytes);
+    Answer::Done
+}
+
+// Remove, where the table t has the entries of the bytes.
+fn remove_in(bytes: &mut [u8], t: Table, key: &[u8]) -> Answer
+    requires { ⌜ (length (now bytes) ≡ recordSize) × (entriesIn (now bytes) ≡ some (tabled t)) ⌝ }
+    ensures { λ r. ⌜ ChangesIn (remove (now (key .entry))) (some (tabled t)) (now (bytes .entry)) (replyOf r) (now (bytes .exit)) ⌝ }
+{
+    if !is_key(key) {
+        return Answer::Refused(3);
+    }
+    let i = rank_of(t, key);
+    if is_row(t, i, key) {
+        build(without_row(t, i), bytes);
+        return Answer::Removed(1);
+    }
+    Answer::Removed(0)
+}
+
 // An existing key's value is replaced.
 pub fn put(bytes: &mut [u8], key: &[u8], value: u32) -> Answer
     requires { ⌜ length (now bytes) ≡ recordSize ⌝ }
     ensures { λ r. ⌜ ChangesIn (put (now (key .entry)) value) (entriesIn (now (bytes .entry))) (now (bytes .entry)) (replyOf r) (now (bytes .exit)) ⌝ }
 {
-    let x = radix_bytes::from_bytes(bytes);
-    settle(bytes, index::put(x, key, value))
+    let l = radix_rows::list(bytes);
+    if !l.ok {
+        return Answer::Refused(2);
+    }
+    let t = l.table;
+    put_in(bytes, t, key, value)
 }
 
 // Answers 1, or 0 where the key is not held.
@@ -72,22 +92,28 @@ pub fn remove(bytes: &mut [u8], key: &[u8]) -> Answer
     requires { ⌜ length (now bytes) ≡ recordSize ⌝ }
     ensures { λ r. ⌜ ChangesIn (remove (now (key .entry))) (entriesIn (now (bytes .entry))) (now (bytes .entry)) (replyOf r) (now (bytes .exit)) ⌝ }
 {
-    let x = radix_bytes::from_bytes(bytes);
-    settle(bytes, index::remove(x, key))
+    let l = radix_rows::list(bytes);
+    if !l.ok {
+        return Answer::Refused(2);
+    }
+    let t = l.table;
+    remove_in(bytes, t, key)
 }
 
 pub fn put_sound(bytes: &mut [u8], key: &[u8], value: u32) -> Answer
     requires { ⌜ (length (now bytes) ≡ recordSize) × IsSound (entriesIn (now bytes)) ⌝ }
     ensures { λ r. ⌜ ChangesIn (put (now (key .entry)) value) (entriesIn (now (bytes .entry))) (now (bytes .entry)) (replyOf r) (now (bytes .exit)) ⌝ }
 {
-    let x = radix_bytes::from_bytes(bytes);
-    settle(bytes, index::put_sound(x, key, value))
+    let l = radix_rows::table_of(bytes);
+    let t = l.table;
+    put_in(bytes, t, key, value)
 }
 
 pub fn remove_sound(bytes: &mut [u8], key: &[u8]) -> Answer
     requires { ⌜ (length (now bytes) ≡ recordSize) × IsSound (entriesIn (now bytes)) ⌝ }
     ensures { λ r. ⌜ ChangesIn (remove (now (key .entry))) (entriesIn (now (bytes .entry))) (now (bytes .entry)) (replyOf r) (now (bytes .exit)) ⌝ }
 {
-    let x = radix_bytes::from_bytes(bytes);
-    settle(bytes, index::remove_sound(x, key))
+    let l = radix_rows::table_of(bytes);
+    let t = l.table;
+    remove_in(bytes, t, key)
 }

@@ -36,8 +36,12 @@ pub use Rattle.radix.proofs.Bounds.{nodes-suffice}
 pub use Rattle.radix.proofs.Fields.{AllBelow, Fields}
 -- find by a walk is lookup, and the rows of a record's tree
 pub use Rattle.radix.proofs.Lookups.{shape-find}
-pub use Rattle.radix.proofs.Whole.{shape-gathered}
-pub use Rattle.radix.proofs.Listing.{none-listed, root-within}
+pub use Rattle.radix.proofs.Whole.{shape-gathered, not-canonical, not-gathered, is-gathered}
+pub use Rattle.radix.proofs.Listing.{none-listed, root-within, lists-none, lists-some, tree-listed}
+-- what a walk over a record tests, one node and one place at a time
+pub use Rattle.radix.proofs.Local.{not-several, by-next, only-empty, only-key, only-parted, one-long, one-low, one-key, one-below}
+pub use Rattle.radix.proofs.Tidy.{free-len, free-key, free-child, free-next, free-val, free-label, tidy-long, tidy-flag, tidy-tail}
+pub use Rattle.radix.proofs.Gathers.{gather-nil, gather-deep, gather-full, gather-below, gather-later, own-none, own-full, own-added}
 
 labels-short : (before : List ℕ) (s : Shape) (old all : List Entry) → gathered before s old ≡ some all → Labels s
 unfolding gathered

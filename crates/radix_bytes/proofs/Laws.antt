@@ -10,6 +10,7 @@ use Rattle.octets.proofs.Laws.{length-le, value-le, le-value, value-le-lt, leng
 use Rattle.radix.specs.declared.Index.{Index}
 use Rattle.radix_bytes.specs.Bytes.{wordBytes, wordsAt, bytesOf, recordFrom, Fit, Typed}
 use Rattle.radix_bytes.proofs.Words.{length-words, length-words-at, words-right, words-back, words-again, words-fit, bytes-words}
+pub use Rattle.radix_bytes.proofs.Places.{len-of, key-of, child-of, next-of, value-of, label-of, label-size}
 
 -- what stands after a part of n bytes
 after : (xs ys : List ℕ) (n at m : ℕ) → length xs ≡ n → area (n + at) m (xs ++ ys) ≡ area at m ys

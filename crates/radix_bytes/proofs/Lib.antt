@@ -1,3 +1,4 @@
 -- Laws is what callers cite.
 pub mod Laws
 pub mod Words
+pub mod Places

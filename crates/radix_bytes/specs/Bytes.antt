@@ -11,6 +11,7 @@ use lib.ListN.{length}
 use Rattle.octets.specs.Bytes.{Bytes, le, leValue}
 use Rattle.octets.specs.Place.{area}
 use Rattle.radix.specs.declared.Index.{Index}
+use Rattle.radix.specs.Record.{Nodes, nodesOf}
 
 abbrev pub recordSize : ℕ
 recordSize = 6658
@@ -41,6 +42,10 @@ recordFrom s =
       val = wordsAt 4 s 1538 256;
       label = area 2562 4096 s;
     }
+
+-- the pool in it
+abbrev pub poolIn : List ℕ → Nodes
+poolIn s = nodesOf (recordFrom s)
 
 -- every number has w bytes at most
 abbrev pub Fit : ℕ → List ℕ → Type 0

@@ -1,15 +1,16 @@
-//! Measures the proved index beside a `BTreeMap` and a sorted array, in one run.
+//! Measures the proved index beside the same in plain Rust, a `BTreeMap` and a sorted array, in one run.
 //!
 //! `cargo bench` prints times, `cargo bench -- instructions` counts of executed instructions (it runs
 //! itself under valgrind). See docs/PERFORMANCE.md.
 
+mod plain;
 mod sides;
 
 use std::hint::black_box;
 use std::process::Command;
 use std::time::Instant;
 
-use sides::{Proved, Side, Sorted, Tree};
+use sides::{Plain, Proved, Side, Sorted, Tree};
 use wallathi_index::LONGEST_KEY;
 use wallathi_model::rng::Rng;
 
@@ -126,14 +127,14 @@ fn run<S: Side>(operation: Operation, keys: &[Key], calls: usize, only_prepare: 
     time
 }
 
-/// The same for the validation of a record, which every operation of the proved index begins with.
-fn validate(keys: &[Key], calls: usize, only_prepare: bool) -> f64 {
-    let side: Proved = filled(keys);
+/// The same for the validation of a record, which every operation on a record begins with.
+fn validate<S: Side>(validate: fn(&S), keys: &[Key], calls: usize, only_prepare: bool) -> f64 {
+    let side: S = filled(keys);
     if only_prepare {
         return 0.0;
     }
     let start = Instant::now();
-    (0..calls).for_each(|_| black_box(&side).validate());
+    (0..calls).for_each(|_| validate(black_box(&side)));
     start.elapsed().as_nanos() as f64 / calls as f64
 }
 
@@ -143,19 +144,19 @@ fn median(mut samples: Vec<f64>) -> f64 {
 }
 
 fn print_head(figure: &str) {
-    let names = [Proved::NAME, Tree::NAME, Sorted::NAME];
-    println!("{figure:34} {:>9} {:>9} {:>13} {:>9} {:>9}", names[0], names[1], names[2], "ratio", "ratio");
+    let names = [Proved::NAME, Plain::NAME, Tree::NAME, Sorted::NAME];
+    println!("{figure:30} {:>9} {:>11} {:>7} {:>9} {:>13}", names[0], names[1], "ratio", names[2], names[3]);
 }
 
-fn print_row(name: &str, [proved, tree, sorted]: [f64; 3]) {
-    let ratios = [proved / tree, proved / sorted];
-    println!("{name:34} {proved:9.0} {tree:9.0} {sorted:13.0} {:9.1} {:9.1}", ratios[0], ratios[1]);
+fn print_row(name: &str, [proved, plain, tree, sorted]: [f64; 4]) {
+    println!("{name:30} {proved:9.0} {plain:11.0} {:7.2} {tree:9.0} {sorted:13.0}", proved / plain);
 }
 
 /// A figure of each side for each operation on each set of keys, and of the validation.
-fn report(sides: impl Fn(usize, usize) -> [f64; 3], validation: impl Fn(usize) -> f64) {
+fn report(sides: impl Fn(usize, usize) -> [f64; 4], validation: impl Fn(usize) -> [f64; 2]) {
     for (set, (kind, count)) in SETS.iter().enumerate() {
-        println!("{:34} {:9.0}", format!("validation, {count} {kind}"), validation(set));
+        let [proved, plain] = validation(set);
+        println!("{:30} {proved:9.0} {plain:11.0} {:7.2}", format!("validation, {count} {kind}"), proved / plain);
         for (number, (name, _)) in OPERATIONS.iter().enumerate() {
             print_row(&format!("{name}, {count} {kind}"), sides(set, number));
         }
@@ -171,17 +172,23 @@ fn time() {
     print_head("median time of a call, ns");
     let sides = |set: usize, operation: usize| {
         let (keys, operation) = (set_keys(set), OPERATIONS[operation].1);
-        let mut samples = [vec![], vec![], vec![]];
+        let mut samples = [vec![], vec![], vec![], vec![]];
         for _ in 0..SAMPLES {
             samples[0].push(run::<Proved>(operation, &keys, CALLS, false));
-            samples[1].push(run::<Tree>(operation, &keys, CALLS, false));
-            samples[2].push(run::<Sorted>(operation, &keys, CALLS, false));
+            samples[1].push(run::<Plain>(operation, &keys, CALLS, false));
+            samples[2].push(run::<Tree>(operation, &keys, CALLS, false));
+            samples[3].push(run::<Sorted>(operation, &keys, CALLS, false));
         }
         samples.map(median)
     };
     let validation = |set| {
         let keys = set_keys(set);
-        median((0..SAMPLES).map(|_| validate(&keys, CALLS, false)).collect())
+        let mut samples = [vec![], vec![]];
+        for _ in 0..SAMPLES {
+            samples[0].push(validate(Proved::validate, &keys, CALLS, false));
+            samples[1].push(validate(Plain::validate, &keys, CALLS, false));
+        }
+        samples.map(median)
     };
     report(sides, validation);
 }
@@ -210,50 +217,46 @@ fn instructions() {
         (calls - prepare) / CALLS as f64
     };
     let sides = |set: usize, operation: usize| {
-        [Proved::NAME, Tree::NAME, Sorted::NAME].map(|side| of(set, &operation.to_string(), side))
+        [Proved::NAME, Plain::NAME, Tree::NAME, Sorted::NAME].map(|side| of(set, &operation.to_string(), side))
     };
-    report(sides, |set| of(set, "validation", Proved::NAME));
+    report(sides, |set| [Proved::NAME, Plain::NAME].map(|side| of(set, "validation", side)));
 }
 
 /// One side's calls, or their preparation, to be counted.
 fn run_one(set: &str, operation: &str, side: &str, only_prepare: bool) {
     let keys = set_keys(set.parse().expect("a set's number"));
     if operation == "validation" {
-        validate(&keys, CALLS, only_prepare);
+        match side {
+            Proved::NAME => validate(Proved::validate, &keys, CALLS, only_prepare),
+            _ => validate(Plain::validate, &keys, CALLS, only_prepare),
+        };
         return;
     }
     let operation = OPERATIONS[operation.parse::<usize>().expect("an operation's number")].1;
     match side {
         Proved::NAME => run::<Proved>(operation, &keys, CALLS, only_prepare),
+        Plain::NAME => run::<Plain>(operation, &keys, CALLS, only_prepare),
         Tree::NAME => run::<Tree>(operation, &keys, CALLS, only_prepare),
         _ => run::<Sorted>(operation, &keys, CALLS, only_prepare),
     };
+}
+
+/// What a side answers on a key: its value, the first at or above, the last at or below.
+fn answers<S: Side>(keys: &[Key], key: &Key) -> (u64, (u64, u64), (u64, u64), [u8; LONGEST_KEY]) {
+    let side: S = filled(keys);
+    let mut output = [0; LONGEST_KEY];
+    (side.find(key), side.first_at_or_above(key, &mut output), side.last_at_or_below(key, &mut output), output)
 }
 
 /// The sides answer alike.
 fn compare() {
     for set in 0..SETS.len() {
         let keys = set_keys(set);
-        let (proved, tree, sorted): (Proved, Tree, Sorted) = (filled(&keys), filled(&keys), filled(&keys));
         for key in keys.iter().chain(&asked(&keys)) {
-            let found = [proved.find(key), tree.find(key), sorted.find(key)];
-            assert!(found.iter().all(|&value| value == found[0]));
-            let mut outputs = [[0; LONGEST_KEY]; 3];
-            let [a, b, c] = &mut outputs;
-            let above = [
-                proved.first_at_or_above(key, a),
-                tree.first_at_or_above(key, b),
-                sorted.first_at_or_above(key, c),
-            ];
-            assert!(above.iter().all(|&value| value == above[0]));
-            let [a, b, c] = &mut outputs;
-            let below = [
-                proved.last_at_or_below(key, a),
-                tree.last_at_or_below(key, b),
-                sorted.last_at_or_below(key, c),
-            ];
-            assert!(below.iter().all(|&value| value == below[0]));
-            assert!(outputs.iter().all(|&output| output == outputs[0]));
+            let proved = answers::<Proved>(&keys, key);
+            assert_eq!(answers::<Plain>(&keys, key), proved);
+            assert_eq!(answers::<Tree>(&keys, key), proved);
+            assert_eq!(answers::<Sorted>(&keys, key), proved);
         }
     }
 }

@@ -1,9 +1,11 @@
-//! What is measured: the proved index, and two plain Rust maps that answer the same.
+//! What is measured: the proved index, the same in plain Rust, and two maps of plain Rust that answer the same and trust their memory.
 
 use std::collections::BTreeMap;
 use std::ops::Bound;
 
 use wallathi_index::{raw, LONGEST_KEY, MOST_KEYS};
+
+use crate::plain;
 
 /// Where a neighbour's key is written.
 pub type Output = [u8; LONGEST_KEY];
@@ -72,6 +74,50 @@ impl Proved {
     /// A key without a byte is refused once the record is found to be sound.
     pub fn validate(&self) {
         assert_eq!(raw::find(&self.record, &[], &mut 0), raw::BAD_KEY);
+    }
+}
+
+/// The same in plain Rust.
+#[derive(Clone)]
+pub struct Plain {
+    record: Box<[u8; plain::RECORD]>,
+}
+
+fn near(found: plain::Near) -> (u64, u64) {
+    found.map_or((NONE, NONE), |(length, value)| (u64::from(value), length as u64))
+}
+
+impl Side for Plain {
+    const NAME: &'static str = "plain Rust";
+
+    fn new() -> Plain {
+        Plain { record: Box::new([0; plain::RECORD]) }
+    }
+
+    fn put(&mut self, key: &[u8], value: u32) {
+        plain::put(&mut self.record, key, value).expect("put");
+    }
+
+    fn remove(&mut self, key: &[u8]) -> u64 {
+        plain::remove(&mut self.record, key).expect("remove")
+    }
+
+    fn find(&self, key: &[u8]) -> u64 {
+        plain::find(&self.record, key).expect("find").map_or(NONE, u64::from)
+    }
+
+    fn first_at_or_above(&self, key: &[u8], output: &mut Output) -> (u64, u64) {
+        near(plain::first_at_or_above(&self.record, key, output).expect("a neighbour"))
+    }
+
+    fn last_at_or_below(&self, key: &[u8], output: &mut Output) -> (u64, u64) {
+        near(plain::last_at_or_below(&self.record, key, output).expect("a neighbour"))
+    }
+}
+
+impl Plain {
+    pub fn validate(&self) {
+        assert_eq!(plain::find(&self.record, &[]), Err(raw::BAD_KEY));
     }
 }
 

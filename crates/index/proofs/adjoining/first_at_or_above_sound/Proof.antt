@@ -6,8 +6,7 @@ use borrow.Author.Needs.{needs}
 use borrow.Author.Tests.{not-true, not-false}
 use Rattle.keys.specs.Entries.{isKey}
 use Rattle.keys.specs.Answer.{neighbourOf}
-use Rattle.index.proofs.Steps.{sound-root}
-use Rattle.index.proofs.Adjacent.{first-3, first-is}
+use Rattle.index.proofs.Adjacent.{sound-root, first-3, first-is}
 use Rattle.index.proofs.adjoining.first_at_or_above_sound.Statement.{statement}
 use Rattle.index.proofs.adjoining.first_at_or_above_sound.Tie as tie
 

@@ -1,7 +1,9 @@
 -- `empty` meets its contract. Assumes nothing.
-use mathlib.Core.List.{[]}
+use mathlib.Core.Path.{ap, _∙_}
+use mathlib.Core.Option.{some}
 use borrow.Author.Needs.{needs}
-use Rattle.index_bytes.proofs.Settling.{written}
+use Rattle.keys.proofs.Laws.{none-map}
+use Rattle.index_bytes.specs.Held.{recordBytes}
 use Rattle.index_bytes.proofs.change.empty.Statement.{statement}
 use Rattle.index_bytes.proofs.change.empty.Tie as tie
 
@@ -10,9 +12,6 @@ empty-spec =
     tie.close
     (tie.spec
     (λ c κs. search needs)
-    (λ c κs. search needs)
+    (λ c κs. (none-map _ (c.before .no-rows .ensures .0), c.before.before.before .pre))
     (λ c. search needs)
-    (λ c.
-    let x = c.before.before.before.before .empty in
-    let w = c.before.before .to-bytes in
-    written [] (w .last .1 .0) (x .result) (x .ensures .0) (x .ensures .1) (w .ensures)))
+    (λ c. (c.before.before .build .ensures .0 ∙ ap recordBytes (c.before.before.before.before .no-rows .ensures .0), c.before.before .build .ensures .1 ∙ ap some (c.before.before.before.before .no-rows .ensures .0))))

@@ -1,12 +1,10 @@
 -- `last_at_or_below` meets its contract. Assumes nothing.
-use mathlib.Core.List.{List}
-use mathlib.Core.Option.{Option}
 use mathlib.Core.Path.{ap, _∙_}
 use borrow.Author.Needs.{needs}
-use Rattle.keys.specs.Entries.{Entry}
-use Rattle.keys.specs.Operation.{lastAtOrBelow, replyIn}
+use borrow.Author.Tests.{not-true, not-false}
+use Rattle.keys.specs.Operation.{lastAtOrBelow}
 use Rattle.keys.specs.Answer.{neighbourOf}
-use Rattle.index_bytes.proofs.Settling.{read-entries}
+use Rattle.index_bytes.proofs.Steps.{judged-2, judged-sound}
 use Rattle.index_bytes.proofs.look.last_at_or_below.Statement.{statement}
 use Rattle.index_bytes.proofs.look.last_at_or_below.Tie as tie
 
@@ -16,7 +14,6 @@ last-at-or-below-spec =
     (tie.spec
     (λ c κs. search needs)
     (λ c κs. search needs)
-    (λ c.
-    let x = c.before .from-bytes in
-    let a = c.before.before.before.before .args in
-    c .last-at-or-below .ensures ∙ ap (λ (o : Option (List Entry)). neighbourOf (replyIn (lastAtOrBelow (a .key .now)) o)) (read-entries (a .bytes .now) (x .result) (x .ensures))))
+    (λ c. let x = c.before.before.before.before.before .args in c .damaged .ensures ∙ ap neighbourOf (judged-2 (x .bytes .now) (c.before.before.before.before.before .pre) (c.before.before .is-sound .result) (c.before.before .is-sound .ensures) (lastAtOrBelow (x .key .now)) (not-true _ (c.before .if1 .taken))))
+    (λ c κs. let x = c.before.before.before.before .args in (c.before.before.before.before .pre, judged-sound (x .bytes .now) (c.before.before.before.before .pre) (c.before .is-sound .result) (c.before .is-sound .ensures) (not-false _ (c .if1 .left))))
+    (λ c. search needs))

@@ -1,0 +1,17 @@
+-- `value_at` meets its contract. Assumes nothing.
+use mathlib.Core.Path.{_∙_}
+use native.Mathlib.Omega.{arith}
+use Rattle.radix_bytes.proofs.Places.{value-of}
+use borrow.Author.Needs.{needs}
+use Rattle.radix_bytes.proofs.place.value_at.Statement.{statement}
+use Rattle.radix_bytes.proofs.place.value_at.Tie as tie
+
+pub value-at-spec : {M : Type 1} → statement M
+value-at-spec =
+    tie.close
+    (tie.spec
+    (λ c. search needs)
+    (λ c. search needs)
+    (λ c κs. search needs)
+    (λ c. omega (arith, c .read-le .ensures .1))
+    (λ c. let x = c.before.before .args in (c .read-le .ensures .0 ∙ value-of (x .s .now) (x .p) (omega arith), omega (arith, c .read-le .ensures .1))))

@@ -1,0 +1,1 @@
+-- What find answers is said in the specs of radix.

@@ -1,0 +1,126 @@
+-- The tests at a node, one after the other. Assumes nothing.
+use mathlib.Core.Bool.{Bool, true, false}
+use mathlib.Core.Path.{_≡_, refl, sym, ap, ap₂, _∙_}
+use mathlib.Core.List.{List, [], _∷_, _++_}
+use Prim.Native.Nat.{ℕ, _+_, _*_, _-_, _^_, _≤_, _<_}
+use native.Mathlib.Nat.{add-zero}
+use native.Mathlib.Omega.{arith}
+use borrow.Author.Tests.{eq-eqb, ne-eqb, eqb-true, eqb-false, le-leb, lt-leb}
+use lib.Dec.{ltb, eqb}
+use lib.ListN.{length, getD, take, drop}
+use Rattle.octets.specs.Pick.{both}
+use Rattle.octets.specs.Bytes.{leValue, zeros}
+use Rattle.octets.specs.Place.{area}
+use Rattle.octets.specs.Compare.{allZero}
+use Rattle.octets.proofs.Laws.{both-assoc, both-false, all-zero, zero-all, length-area, area-add, area-area, area-zeros, part-area}
+use Rattle.keys.specs.Table.{lengthOf}
+use Rattle.radix.specs.Canon.{isNil, isOnly, isOneOf}
+use Rattle.radix.specs.Record.{Nodes, labelOf, valueOf, treeAt, ruleAt, isTidy}
+use Rattle.radix_bytes.specs.Bytes.{poolIn}
+use Rattle.radix_bytes.proofs.Laws.{label-of}
+use Rattle.radix_judge.specs.Visit.{isFit}
+
+-- which rule is due
+module _ (first : Bool) (least : ℕ) (x : Nodes) (left p : ℕ) (t : Bool) (e : t ≡ both first (isNil (treeAt left x (getD (x .next) p 0)))) where
+  pub due-only : t ≡ true → (r : Bool) → r ≡ isOnly (labelOf x p) (valueOf x p) (treeAt left x (getD (x .child) p 0)) → r ≡ ruleAt first least left x p
+  unfolding ruleAt
+  due-only z r h = rw (← e, z) h
+
+  pub due-one : t ≡ false → (r : Bool) → r ≡ isOneOf least (labelOf x p) (valueOf x p) (treeAt left x (getD (x .child) p 0)) → r ≡ ruleAt first least left x p
+  unfolding ruleAt
+  due-one z r h = rw (← e, z) h
+
+-- the bytes after a label, and those of a whole one
+pub tail-zero : (s : List ℕ) (p n : ℕ) → p < 256 → n ≤ 16
+    → allZero (take (2562 + 16 * p + 16 - (2562 + 16 * p + n)) (drop (2562 + 16 * p + n) s)) ≡ allZero (area (16 * p + n) (16 - n) (poolIn s .label))
+tail-zero s p n h k =
+    let e : 2562 + 16 * p + 16 - (2562 + 16 * p + n) ≡ 16 - n = omega arith in
+    let f : 2562 + 16 * p + n ≡ 2562 + (16 * p + n) = omega arith in
+    ap allZero (part-area (2562 + 16 * p + n) (2562 + 16 * p + 16 - (2562 + 16 * p + n)) s ∙ ap₂ (λ (i j : ℕ). area i j s) f e ∙ sym (label-of s p h n (16 - n) (omega arith)))
+
+same-test : (a b : ℕ) → (a ≡ 0 → b ≡ 0) → (b ≡ 0 → a ≡ 0) → eqb a 0 ≡ eqb b 0
+same-test a b f g = go (eqb b 0) refl
+  where
+    go : (t : Bool) → eqb b 0 ≡ t → eqb a 0 ≡ t
+    go true e = eq-eqb a 0 (g (eqb-true b 0 e))
+    go false e = ne-eqb a 0 (λ q. eqb-false b 0 e (f q))
+
+-- by words, which may overlap
+pub word-zero : (xs : List ℕ) → eqb (leValue xs) 0 ≡ allZero xs
+unfolding leValue allZero
+word-zero [] = refl
+word-zero (b ∷ bs) = go (eqb b 0) refl (word-zero bs)
+  where
+    go : (t : Bool) → eqb b 0 ≡ t → eqb (leValue bs) 0 ≡ allZero bs → eqb (b + 256 * leValue bs) 0 ≡ both t (allZero bs)
+    go false e h = let z = eqb-false b 0 e in ne-eqb (b + 256 * leValue bs) 0 (λ q. z (omega (arith, q)))
+    go true e h =
+        let z = eqb-true b 0 e in
+        same-test (b + 256 * leValue bs) (leValue bs) (λ q. omega (arith, q)) (λ q. omega (arith, q, z)) ∙ h
+
+all-append : (xs ys : List ℕ) → allZero (xs ++ ys) ≡ both (allZero xs) (allZero ys)
+unfolding allZero
+all-append [] ys = refl
+all-append (x ∷ xs) ys = ap (both (eqb x 0)) (all-append xs ys) ∙ both-assoc (eqb x 0) (allZero xs) (allZero ys)
+
+module _ (s : List ℕ) (at n : ℕ) (h : n ≤ 8) (l : at + 16 ≤ length s) where
+  abbrev inner : List ℕ
+  inner = area (at + n) (8 - n) s
+
+  whole : area (at + n) (16 - n) s ≡ inner ++ area (at + 8) 8 s
+  whole =
+      let e : 16 - n ≡ (8 - n) + 8 = omega arith in
+      let f : at + n + (8 - n) ≡ at + 8 = omega arith in
+      ap (λ (i : ℕ). area (at + n) i s) e ∙ area-add (at + n) (8 - n) 8 s ∙ ap (λ (i : ℕ). inner ++ area i 8 s) f
+
+  first-word : area (at + n) 8 s ≡ inner ++ area (at + 8) n s
+  first-word =
+      let e : 8 ≡ (8 - n) + n = omega arith in
+      let f : at + n + (8 - n) ≡ at + 8 = omega arith in
+      ap (λ (i : ℕ). area (at + n) i s) e ∙ area-add (at + n) (8 - n) n s ∙ ap (λ (i : ℕ). inner ++ area i n s) f
+
+  pub second-not : allZero (area (at + 8) 8 s) ≡ false → allZero (area (at + n) (16 - n) s) ≡ false
+  second-not z = ap allZero whole ∙ all-append inner (area (at + 8) 8 s) ∙ ap (both (allZero inner)) z ∙ both-false (allZero inner)
+
+  pub second-is : allZero (area (at + 8) 8 s) ≡ true → allZero (area (at + n) 8 s) ≡ allZero (area (at + n) (16 - n) s)
+  second-is z =
+      let e : area (at + 8) n s ≡ zeros n = sym (area-area (at + 8) 8 s 0 n (omega arith) ∙ ap (λ (i : ℕ). area i n s) (add-zero (at + 8))) ∙ ap (area 0 n) (all-zero (area (at + 8) 8 s) z ∙ ap zeros (length-area (at + 8) 8 s (omega arith))) ∙ area-zeros 0 n 8 (omega arith) in
+      ap allZero first-word ∙ all-append inner (area (at + 8) n s) ∙ ap (both (allZero inner)) (ap allZero e ∙ zero-all n ∙ sym z) ∙ sym (ap allZero whole ∙ all-append inner (area (at + 8) 8 s))
+
+-- a label by its bytes
+pub label-tail : (s : List ℕ) (p n : ℕ) → p < 256 → n ≤ 16 → area (2562 + 16 * p + n) (16 - n) s ≡ area (16 * p + n) (16 - n) (poolIn s .label)
+label-tail s p n h k =
+    let f : 2562 + 16 * p + n ≡ 2562 + (16 * p + n) = omega arith in
+    ap (λ (i : ℕ). area i (16 - n) s) f ∙ sym (label-of s p h n (16 - n) (omega arith))
+
+pub label-zero : (s : List ℕ) (p : ℕ) → p < 256
+    → allZero (take (2562 + 16 * p + 16 - (2562 + 16 * p)) (drop (2562 + 16 * p) s)) ≡ allZero (area (16 * p) 16 (poolIn s .label))
+label-zero s p h =
+    let e : 2562 + 16 * p + 16 - (2562 + 16 * p) ≡ 16 = omega arith in
+    let f : 2562 + 16 * p ≡ 2562 + (16 * p + 0) = omega arith in
+    let g : 16 * p + 0 ≡ 16 * p = omega arith in
+    ap allZero (part-area (2562 + 16 * p) (2562 + 16 * p + 16 - (2562 + 16 * p)) s ∙ ap₂ (λ (i j : ℕ). area i j s) f e ∙ sym (label-of s p h 0 16 (omega arith)) ∙ ap (λ (i : ℕ). area i 16 (poolIn s .label)) g)
+
+-- all tests
+module _ (first : Bool) (least most : ℕ) (x : Nodes) (p d n : ℕ) (a : Bool) (ea : a ≡ isTidy x p) where
+  pub fit-tidy : a ≡ false → false ≡ isFit first least most x p d n
+  unfolding isFit
+  fit-tidy z = rw (← ea, z)
+
+  module _ (z : a ≡ true) (b : Bool) (eb : b ≡ ruleAt first least most x p) where
+    pub fit-rule : b ≡ false → false ≡ isFit first least most x p d n
+    unfolding isFit
+    fit-rule y = rw (← ea, z, ← eb, y)
+
+    module _ (y : b ≡ true) (l : ℕ) (el : l ≡ lengthOf (x .len) p) where
+      pub fit-short : 16 < d + l → false ≡ isFit first least most x p d n
+      unfolding isFit
+      fit-short h = rw (← ea, z, ← eb, y, ← el, lt-leb (d + l) 16 h)
+
+      module _ (w : d + l ≤ 16) (k : ℕ) (ek : k ≡ getD (x .key) p 0) where
+        pub fit-few : 64 < n + k → false ≡ isFit first least most x p d n
+        unfolding isFit
+        fit-few h = rw (← ea, z, ← eb, y, ← el, le-leb (d + l) 16 w, ← ek, lt-leb (n + k) 64 h)
+
+        pub fit-value : n + k ≤ 64 → (t : Bool) → t ≡ ltb (getD (x .val) p 0) (2 ^ 32) → t ≡ isFit first least most x p d n
+        unfolding isFit
+        fit-value h t e = rw (← ea, z, ← eb, y, ← el, le-leb (d + l) 16 w, ← ek, le-leb (n + k) 64 h) e

@@ -1,0 +1,2 @@
+-- Read after Record and Gathering of the crate radix.
+pub mod Visit

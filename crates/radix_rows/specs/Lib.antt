@@ -1,0 +1,1 @@
+-- What its functions say is in the specs of radix and radix_bytes.
