@@ -4,9 +4,10 @@ use crate::running::Request;
 use stream::Reply;
 ghost use mathlib.Core.Path.{_≡_};
 ghost use lib.ListN.{length};
+ghost use Rattle.state.specs.Layout.{stateSize};
 
 pub fn change(store: &mut [u8], state: &mut [u8], q: Request, slip: &[u8]) -> Reply
-    requires { ⌜ length (now state) ≡ 64434 ⌝ }
+    requires { ⌜ length (now state) ≡ stateSize ⌝ }
 {
     let letter = q.letter;
     match letter {
@@ -19,7 +20,7 @@ pub fn change(store: &mut [u8], state: &mut [u8], q: Request, slip: &[u8]) -> Re
 }
 
 fn change_entry(store: &[u8], state: &mut [u8], q: Request, group: &[u8], consumer: &[u8]) -> Reply
-    requires { ⌜ length (now state) ≡ 64434 ⌝ }
+    requires { ⌜ length (now state) ≡ stateSize ⌝ }
 {
     let letter = q.letter;
     match letter {
@@ -36,7 +37,7 @@ pub fn change_group(
     group: &[u8],
     consumer: &[u8],
 ) -> Reply
-    requires { ⌜ length (now state) ≡ 64434 ⌝ }
+    requires { ⌜ length (now state) ≡ stateSize ⌝ }
 {
     let letter = q.letter;
     match letter {

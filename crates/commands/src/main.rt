@@ -4,13 +4,15 @@
 //     request   | letter 1 | ID 16 | time 8 | number 8 | place 4 | step 1 | times 4 | stride 2 | length 2 | length 1 | bytes | name |
 //
 // The ID is big-endian, the rest little-endian. L gives the store so many bytes as the number says; its bytes and the state's are zero
-// then. P puts the bytes at the place: the state's first place is 300,000. The other letters are the fifteen commands. Before a command
-// the step is added to the byte at the place, modulo 256, and taken back after it. Where times are given, a query is asked once for each
-// of so many places, the stride between them.
+// then. P puts the bytes at the place: the state's first place is 300,000. The other letters are the commands: S set up, A add, C add by
+// clock, D delete, T trim, N next, R read, F field, G create group, H destroy group, E group read, K acknowledge, M claim, I next pending,
+// U drop consumer. Before a command the step is added to the byte at the place, modulo 256, and taken back after it. Where times are given,
+// a query is asked once for each of so many places, the stride between them.
 
-use id::Id;
 use libc::STDIN_FILENO;
 use running::Request;
+use running::STATE_PLACE;
+use state::STATE_BYTES;
 
 mod asking;
 mod changing;
@@ -20,6 +22,7 @@ mod showing;
 ghost use mathlib.Core.Path.{_≡_};
 ghost use Prim.Native.Nat.{_≤_};
 ghost use lib.ListN.{length};
+ghost use Rattle.state.specs.Layout.{stateSize};
 
 const HEAD_BYTES: usize = 47;
 
@@ -40,36 +43,35 @@ fn read_bytes(d: &mut [u8], n: usize) -> bool
 
 // A store of so many zeros, and a state of zeros.
 fn begin(store: &mut [u8], state: &mut [u8], n: u64) -> Next
-    requires { ⌜ (length (now store) ≡ 300000) × (length (now state) ≡ 64434) ⌝ }
+    requires { ⌜ (length (now store) ≡ 300000) × (length (now state) ≡ stateSize) ⌝ }
 {
-    if 300000 < n {
+    let len = n as usize;
+    if MOST_STORE < len {
         return Next::End;
     }
-    octets::zero(store, 0, 300000);
-    octets::zero(state, 0, 64434);
-    Next::Length(n as usize)
+    octets::zero(store, 0, MOST_STORE);
+    octets::zero(state, 0, STATE_BYTES);
+    Next::Length(len)
 }
 
+// Bytes put at a place, if there is room.
 fn put_at(d: &mut [u8], place: u64, s: &[u8]) {
-    if 300000 < place {
-        return;
-    }
     let at = place as usize;
-    if 8192 < s.len() {
+    if d.len() < s.len() {
         return;
     }
-    if d.len() < at + s.len() {
+    if d.len() - s.len() < at {
         return;
     }
     octets::copy_in(d, at, s);
 }
 
 fn put(store: &mut [u8], state: &mut [u8], place: u64, s: &[u8]) {
-    if place < 300000 {
+    if place < STATE_PLACE {
         put_at(store, place, s);
         return;
     }
-    put_at(state, place - 300000, s);
+    put_at(state, place - STATE_PLACE, s);
 }
 
 // One request; the answer is the length of the store after it.
@@ -81,7 +83,7 @@ fn answer(
     bytes: &[u8],
     name: &[u8],
 ) -> Next
-    requires { ⌜ (length (now store) ≡ 300000) × (length (now state) ≡ 64434) ⌝ }
+    requires { ⌜ (length (now store) ≡ 300000) × (length (now state) ≡ stateSize) ⌝ }
 {
     if MOST_STORE < len {
         return Next::End;
@@ -116,7 +118,7 @@ fn request_of(head: &[u8]) -> Request
 }
 
 fn request(store: &mut [u8], state: &mut [u8], len: usize) -> Next
-    requires { ⌜ (length (now store) ≡ 300000) × (length (now state) ≡ 64434) ⌝ }
+    requires { ⌜ (length (now store) ≡ 300000) × (length (now state) ≡ stateSize) ⌝ }
 {
     let mut head = [0u8; 47];
     if io::read_full(STDIN_FILENO, &mut head) < HEAD_BYTES {

@@ -7,9 +7,13 @@ use crate::showing::Accepted;
 use id::Id;
 use stream::Reply;
 ghost use mathlib.Core.Path.{_≡_};
-ghost use Prim.Native.Nat.{_≤_};
 ghost use lib.ListN.{length};
+ghost use Rattle.state.specs.Layout.{stateSize};
 
+// The place of the state's first byte; the store's bytes have the places below.
+pub const STATE_PLACE: u64 = 300000;
+
+// What main.rt says of it.
 pub struct Request {
     pub letter: u8,
     pub id: Id,
@@ -23,9 +27,6 @@ pub struct Request {
 
 // The step added to the byte at a place, if there is one.
 fn shift_at(d: &mut [u8], place: u64, step: u64) {
-    if 300000 < place {
-        return;
-    }
     let at = place as usize;
     if d.len() <= at {
         return;
@@ -34,11 +35,11 @@ fn shift_at(d: &mut [u8], place: u64, step: u64) {
 }
 
 fn shift(store: &mut [u8], state: &mut [u8], place: u64, step: u64) {
-    if place < 300000 {
+    if place < STATE_PLACE {
         shift_at(store, place, step);
         return;
     }
-    shift_at(state, place - 300000, step);
+    shift_at(state, place - STATE_PLACE, step);
 }
 
 fn shift_back(store: &mut [u8], state: &mut [u8], place: u64, step: u64) {
@@ -53,7 +54,7 @@ fn reply_to(
     name: &[u8],
     out: &mut [u8],
 ) -> Reply
-    requires { ⌜ (length (now state) ≡ 64434) × (length (now out) ≡ 8192) ⌝ }
+    requires { ⌜ (length (now state) ≡ stateSize) × (length (now out) ≡ 8192) ⌝ }
 {
     let letter = q.letter;
     match letter {
@@ -69,8 +70,9 @@ fn reply_to(
     }
 }
 
+// The bytes are shown as they are after the step was taken back.
 fn run_once(store: &mut [u8], state: &mut [u8], q: Request, bytes: &[u8], name: &[u8])
-    requires { ⌜ length (now state) ≡ 64434 ⌝ }
+    requires { ⌜ length (now state) ≡ stateSize ⌝ }
 {
     let mut out = [238u8; 8192];
     shift(store, state, q.place, q.step);
@@ -84,6 +86,7 @@ fn run_once(store: &mut [u8], state: &mut [u8], q: Request, bytes: &[u8], name: 
     }
 }
 
+// The query with the byte at one place changed.
 fn ask_at(
     store: &mut [u8],
     state: &mut [u8],
@@ -93,7 +96,7 @@ fn ask_at(
     name: &[u8],
     before: Accepted,
 ) -> Accepted
-    requires { ⌜ length (now state) ≡ 64434 ⌝ }
+    requires { ⌜ length (now state) ≡ stateSize ⌝ }
 {
     let mut out = [238u8; 8192];
     shift(store, state, place, q.step);
@@ -102,8 +105,9 @@ fn ask_at(
     showing::with_reply(before, place, reply)
 }
 
+// A query for each place; it changes nothing, so every place is tried on the same bytes.
 fn run_often(store: &mut [u8], state: &mut [u8], q: Request, bytes: &[u8], name: &[u8])
-    requires { ⌜ length (now state) ≡ 64434 ⌝ }
+    requires { ⌜ length (now state) ≡ stateSize ⌝ }
 {
     let times = q.times % 100000;
     let stride = q.stride % 65536;
@@ -120,7 +124,7 @@ fn run_often(store: &mut [u8], state: &mut [u8], q: Request, bytes: &[u8], name:
 }
 
 fn respond(store: &mut [u8], state: &mut [u8], q: Request, bytes: &[u8], name: &[u8])
-    requires { ⌜ length (now state) ≡ 64434 ⌝ }
+    requires { ⌜ length (now state) ≡ stateSize ⌝ }
 {
     if 0 < q.times {
         run_often(store, state, q, bytes, name);
@@ -130,7 +134,7 @@ fn respond(store: &mut [u8], state: &mut [u8], q: Request, bytes: &[u8], name: &
 }
 
 pub fn run(store: &mut [u8], state: &mut [u8], q: Request, bytes: &[u8], name: &[u8])
-    requires { ⌜ length (now state) ≡ 64434 ⌝ }
+    requires { ⌜ length (now state) ≡ stateSize ⌝ }
 {
     respond(store, state, q, bytes, name);
     showing::lent(store, state);

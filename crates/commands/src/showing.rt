@@ -9,6 +9,7 @@ use stream::Reply;
 ghost use mathlib.Core.Path.{_≡_};
 ghost use Prim.Native.Nat.{_≤_};
 ghost use lib.ListN.{length};
+ghost use Rattle.state.specs.Layout.{stateSize};
 
 fn id(id: Id) {
     show::count(b"ms", id.ms);
@@ -133,7 +134,7 @@ fn rows(t: Table)
 }
 
 fn index(state: &[u8])
-    requires { ⌜ length (now state) ≡ 64434 ⌝ }
+    requires { ⌜ length (now state) ≡ stateSize ⌝ }
 {
     let l = state::list_index(state);
     if !l.ok {
@@ -146,7 +147,7 @@ fn index(state: &[u8])
 
 // The slots, the bytes past them, and the parts of the state.
 pub fn lent(store: &[u8], state: &[u8])
-    requires { ⌜ length (now state) ≡ 64434 ⌝ }
+    requires { ⌜ length (now state) ≡ stateSize ⌝ }
 {
     let used = image::slots_in(store.len()) * SLOT_BYTES;
     if store.len() < used {

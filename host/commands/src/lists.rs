@@ -329,7 +329,7 @@ impl Lists {
         }
     }
 
-    /// Records of other keys than the nodes have.
+    /// Records of other keys than the nodes have, and bytes that are no record.
     fn other_records(&mut self) {
         for keys in [1, 2, 5, 20, 64] {
             let mut index = Index::new();
@@ -340,6 +340,10 @@ impl Lists {
             }
             self.put_index(&index);
             self.random(u64::from(keys) * 2 + 1, 4);
+        }
+        for byte in [1, 255] {
+            self.push(Request::Put { place: INDEX_PLACE, bytes: vec![byte; record::RECORD_BYTES] });
+            self.random(u64::from(byte), 6);
         }
     }
 

@@ -1,5 +1,6 @@
-//! Runs the fifteen commands on a store and a state and prints, for each, the answer and checksums of both. With the argument `input` it
-//! writes the requests, as the proved program reads them. The lists are the same in every run.
+//! Runs the fifteen commands on a store and a state and prints, for each, the answer and checksums of
+//! both. With the argument `input` it writes the requests, as the proved program reads them. The lists
+//! are the same in every run.
 
 use std::io::Write;
 
@@ -24,7 +25,7 @@ mod tests {
     use super::*;
 
     #[test]
-    fn answers_of_every_kind_come_up() {
+    fn commands_and_answers_of_every_kind_come_up() {
         let lists = lists::lists();
         for (line, least) in [
             ("done", 50),
@@ -38,7 +39,7 @@ mod tests {
             ("absent", 30),
             ("not moved", 20),
             ("accepted", 30),
-            ("no index", 20),
+            ("no index", 5),
         ] {
             let count = lists.lines.iter().filter(|text| text.starts_with(line)).count();
             assert!(count >= least, "{line}: {count}");
@@ -47,13 +48,8 @@ mod tests {
             assert!(lists.lines.contains(&format!("refused {number}")), "{number}");
         }
         assert!(lists.lines.iter().filter(|line| *line == "refused 2").count() > 300);
-    }
-
-    #[test]
-    fn every_command_comes_up() {
-        let requests = lists::lists().requests;
         for letter in *b"SACDTNRFGHEKMIULP" {
-            let count = requests.iter().filter(|request| request.to_bytes()[0] == letter).count();
+            let count = lists.requests.iter().filter(|request| request.to_bytes()[0] == letter).count();
             assert!(count >= 5, "{}: {count}", letter as char);
         }
     }

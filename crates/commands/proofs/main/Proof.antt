@@ -3,11 +3,12 @@ use mathlib.Core.Path.{_≡_}
 use borrow.Author.Needs.{needs}
 use Prim.Native.Nat.{ℕ}
 use lib.ListN.{length, length-replicate}
+use Rattle.state.specs.Layout.{stateSize}
 use Rattle.commands.proofs.main.Statement.{statement}
 use Rattle.commands.proofs.main.Tie as tie
 
 abbrev Inv-loop : tie.InvT-loop
-Inv-loop store₀ state₀ len₀ left₀ store state len left = (length store ≡ 300000) × (length state ≡ 64434)
+Inv-loop store₀ state₀ len₀ left₀ store state len left = (length store ≡ 300000) × (length state ≡ stateSize)
 
 abbrev μ-loop : tie.MeasureT-loop
 μ-loop store₀ state₀ len₀ left₀ store state len left = left

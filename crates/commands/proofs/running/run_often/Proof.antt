@@ -4,12 +4,13 @@ use Prim.Native.Nat.{_-_, _≤_, _<_}
 use native.Mathlib.Omega.{arith}
 use borrow.Author.Needs.{needs}
 use lib.ListN.{length}
+use Rattle.state.specs.Layout.{stateSize}
 use Rattle.commands.proofs.running.run_often.Statement.{statement}
 use Rattle.commands.proofs.running.run_often.Tie as tie
 
 abbrev Inv-loop : tie.InvT-loop
 Inv-loop store₀ state₀ q bytes name times stride a₀ place₀ i₀ t11 t12 store state a place i =
-    (length store ≡ length store₀) × (length state ≡ 64434) × (i ≤ times) × (place < 400000) × (stride < 65536)
+    (length store ≡ length store₀) × (length state ≡ stateSize) × (i ≤ times) × (place < 400000) × (stride < 65536)
 
 abbrev μ-loop : tie.MeasureT-loop
 μ-loop store₀ state₀ q bytes name times stride a₀ place₀ i₀ t11 t12 store state a place i = times - i
