@@ -46,8 +46,8 @@ fn read_names(s: &[u8], at: usize, count: usize, region: &mut [u8]) -> usize
     i
 }
 
-// The body's name, the bytes from its last delivered ID to its number of consumers, their names, and the rest.
-fn fill_region(s: &[u8], region: &mut [u8])
+// What is known to be a body: its name, the bytes from its last delivered ID to its number of consumers, their names, and the rest.
+pub fn fill_region(s: &[u8], region: &mut [u8])
     requires { ⌜ (length (now region) ≡ regionSize) × (not (isNone (parseBody (now s))) ≡ true) ⌝ }
     ensures { λ _. ⌜ now (region .exit) ≡ readInto (parseBody (now (s .entry))) (now (region .entry)) ⌝ }
 {
