@@ -5,8 +5,10 @@ use mathlib.Core.List.{List, [], _∷_}
 use mathlib.Core.Option.{Option, some, none}
 use Prim.Native.Nat.{ℕ, _*_, _^_, _≤_}
 use native.Mathlib.Omega.{arith}
+use lib.ListN.{length, length-append}
 use Rattle.octets.specs.Bytes.{Bytes}
 use Rattle.octets.specs.Pick.{pick}
+use Rattle.octets.proofs.Laws.{length-le}
 use Rattle.keys.specs.Entries.{Entry, isMap, isKey, firstFrom, lastUpTo}
 use Rattle.keys.specs.Operation.{Operation, Reply, firstAtOrAbove, lastAtOrBelow, replyIn, entriesAfter, operate, isChange}
 use Rattle.keys.specs.Answer.{neighbourOf}
@@ -16,7 +18,8 @@ use Rattle.radix.specs.Record.{entriesOf}
 use Rattle.radix.proofs.Laws.{entries-map, record-back, AllBelow, record-fields, keys-bytes}
 use Rattle.radix_bytes.specs.Bytes.{bytesOf, recordFrom, Fit}
 use Rattle.radix_bytes.proofs.Laws.{record-again, label-bytes}
-use Rattle.index_bytes.specs.Held.{entriesIn, entries-in, recordBytes, record-bytes}
+use Rattle.radix_bytes.proofs.Words.{length-words}
+use Rattle.index_bytes.specs.Held.{recordSize, entriesIn, entries-in, recordBytes, record-bytes}
 use Rattle.index_bytes.specs.Promise.{bytesAfter}
 
 -- what bytes hold is a map: at most 64 keys, rising, each of 1 to 16 bytes, with values of 32 bits
@@ -33,6 +36,17 @@ record-holds es m =
     let f = record-fields es m in
     let again = record-again (recordOf es) (f .root) (f .len) (f .key) (f .child) (fits 2 (recordOf es .child) (f .child-fit)) (f .next) (fits 2 (recordOf es .next) (f .next-fit)) (f .val) (fits 4 (recordOf es .val) (f .val-fit)) (f .label) in
     ap entriesIn (record-bytes es) ∙ entries-in (bytesOf (recordOf es)) ∙ ap entriesOf again ∙ record-back es m
+
+-- and are as many as a record has
+pub length-record : (es : List Entry) → isMap es ≡ true → length (recordBytes es) ≡ recordSize
+unfolding bytesOf
+length-record es m =
+    let f = record-fields es m in
+    let x = recordOf es in
+    let c = length-words 2 (x .child) in
+    let n = length-words 2 (x .next) in
+    let v = length-words 4 (x .val) in
+    ap length (record-bytes es) ∙ simp (length-append, length-le) (omega (arith, f .len, f .key, f .child, f .next, f .val, f .label, c, n, v))
 
 pub empty-holds : entriesIn (recordBytes []) ≡ some []
 empty-holds = record-holds [] (none-map [] refl)
