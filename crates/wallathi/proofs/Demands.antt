@@ -4,23 +4,28 @@
 use mathlib.Core.Path.{_≡_, sym, ap, _∙_}
 use mathlib.Core.List.{List, [], _∷_, _++_, List·Memᴰ}
 use mathlib.Core.Option.{some, none}
-use Prim.Native.Nat.{ℕ, _≤_}
+use Prim.Native.Nat.{ℕ, _≤_, _<_}
 use lib.ListN.{length}
+use Rattle.id.specs.declared.Id.{Id}
+use Rattle.node.specs.Message.{Message}
+use Rattle.node.specs.Step.{findMessage, valueOf}
 use Rattle.groups.specs.Group.{Pending, Group}
 use Rattle.stream.specs.Ledger.{Ledger}
 use Rattle.stream.specs.Cut.{Model, ledgerOf}
-use Rattle.stream.specs.Command.{setUp}
+use Rattle.stream.specs.Command.{setUp, asks, field}
 use Rattle.stream.specs.Promise.{Lent, heldBy, slotsOf}
-use Rattle.snapshot.specs.Command.{save, load}
-use Rattle.wallathi.specs.Export.{Seen}
-use Rattle.wallathi.specs.Run.{Call, call, plain, Meets, Made}
-use Rattle.wallathi.specs.Demands.{keptAfter, ledgerBy, AsLedger, OneAnswer, saveSeen, fileIn, Loads, OneConsumer, NoneHeals, twos, AllPass, SomeRun, FreshRun}
+use Rattle.snapshot.specs.Command.{onStream, save, load}
+use Rattle.wallathi.specs.Export.{Seen, seen}
+use Rattle.wallathi.specs.Run.{Call, call, plain, commandOf, Meets, Made}
+use Rattle.wallathi.specs.Demands.{keptAfter, ledgerBy, AsLedger, OneAnswer, saveSeen, fileIn, Loads, OneConsumer, Refuses, NoneHeals, twos, Passes, AllPass, SomeRun, FreshRun}
 use Rattle.wallathi.proofs.Runs as runs
 use Rattle.wallathi.proofs.Saves as saves
 use Rattle.wallathi.proofs.Loading as loading
 use Rattle.wallathi.proofs.OneConsumer as consumers
 use Rattle.wallathi.proofs.Damaged as damages
 use Rattle.wallathi.proofs.Possible as possible
+use Rattle.wallathi.proofs.Refused as refusals
+use Rattle.wallathi.proofs.Absent as lacking
 
 -- "From a fresh store, every sequence of commands answers as the plain ledger does with its cut beside it, refusals included, and the
 -- stored listpacks hold that ledger by the published encoding"; "the store after it holds the ledger that document 01 works out from
@@ -68,8 +73,17 @@ pub one-consumer : (i : Lent) (m : Model) (g : Group) (p : Pending) → heldBy i
     → OneConsumer g p
 one-consumer i m g p e x y = consumers.has-one-consumer i m g p e x y
 
--- "Whatever document 01 refuses, damaged stores included where it says so, gets that document's number, and the store and the output keep
--- all their bytes": a store that is no image, until it is set up or loaded
+-- "A field that a message lacks reads as absent, never as zero or empty": 33, and nothing is written
+pub absent-field : (i j : Lent) (s : Seen) (id : Id) (name : List ℕ) (len : ℕ) (out : List ℕ) (l : Ledger) (x : Message)
+    → Meets (call (λ n. onStream (asks (field id name n))) (len ∷ []) out) i s j → ledgerBy i ≡ some l → findMessage id (l .messages) ≡ some x
+    → length name ≤ 1000 → valueOf name (x .pairs) ≡ none → s ≡ seen 33 (len ∷ []) out
+absent-field i j s id name len out l x d e f h v = lacking.absent-field i j s id name len out l x d e f h v
+
+-- "Whatever document 01 refuses .. gets that document's number, and the store and the output keep all their bytes"
+pub refused-keeps : (c : Call) (i j : Lent) (s : Seen) → Passes (commandOf c) → Meets c i s j → 1 ≤ s .code → s .code < 32 → Refuses c i s j
+refused-keeps c i j s p d h l = refusals.refused-keeps c i j s p d h l
+
+-- ".. damaged stores included where it says so": a store that is no image, until it is set up or loaded
 pub damaged : {cs : List Call} {i k : Lent} {ss : List Seen} → Made cs i ss k → heldBy i ≡ none → NoneHeals cs → (ss ≡ twos cs) × (k ≡ i)
 damaged m e h = damages.damaged m e h
 

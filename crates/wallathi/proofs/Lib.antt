@@ -10,4 +10,6 @@ pub mod Records
 pub mod Built
 pub mod Keeps
 pub mod Possible
+pub mod Refused
+pub mod Absent
 pub mod Demands
