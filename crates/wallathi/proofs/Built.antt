@@ -1,38 +1,34 @@
 -- Bytes for every model that keeps the rules: slot by slot in the store, and a state. Assumes nothing.
 use mathlib.Core.Path.{_≡_, refl, sym, ap, _∙_, subst}
 use mathlib.Core.Bool.{Bool, true, false}
-use mathlib.Core.List.{List, [], _∷_, _++_, append-assoc}
+use mathlib.Core.List.{List, [], _∷_}
 use mathlib.Core.Option.{some}
 use Prim.Native.Nat.{ℕ, zero, suc, _*_, _/_, _^_, _≤_, _<_}
 use native.Mathlib.Nat.{min-le-right}
 use native.Mathlib.Omega.{arith}
 use lib.Dec.{eqb}
-use lib.ListN.{length, drop, length-append}
+use lib.ListN.{length, drop}
 use borrow.Author.Tests.{lt-ltb, eqb-true, eqb-false}
 use Rattle.octets.specs.Pick.{pick}
-use Rattle.octets.specs.Place.{area}
-use Rattle.octets.proofs.Laws.{both-of, area-left, area-middle, area-right}
+use Rattle.octets.proofs.Laws.{both-of}
 use Rattle.id.specs.declared.Id.{Id}
 use Rattle.id.specs.Id.{least}
-use Rattle.id.specs.Bytes.{idBytes, idFrom}
-use Rattle.id.proofs.Laws.{length-id-bytes, from-bytes-of, id-fits}
+use Rattle.id.specs.Bytes.{idBytes}
+use Rattle.id.proofs.Laws.{length-id-bytes, id-fits}
 use Rattle.keys.specs.Entries as Index
 use Rattle.keys.proofs.Laws.{is-map, before-ids}
-use Rattle.index_bytes.specs.Held.{entriesIn, recordBytes}
-use Rattle.index_bytes.proofs.Laws.{record-holds}
 use Rattle.node.specs.Bytes.{slotOf}
 use Rattle.node.specs.Rules.{risingFrom}
 use Rattle.node.specs.Answer.{lastOf}
 use Rattle.node.proofs.Laws.{slot-length}
 use Rattle.groups.specs.Area.{areaBytes}
 use Rattle.groups.proofs.Laws.{length-area-bytes, sound}
-use Rattle.state.specs.Layout.{lastIn, indexIn, index-is, groupsArea}
+use Rattle.state.proofs.Laws.{state-with}
 use Rattle.stream.specs.Cut.{Node, Model, entriesOf, areNodes, isModel, slotsIn}
 use Rattle.stream.specs.Image.{slotAt}
 use Rattle.stream.specs.Laid.{slotHeld, indexOf}
 use Rattle.stream.specs.Promise.{Lent, lent, heldBy, slotsOf, tailOf}
 use Rattle.stream.proofs.Laws.{ModelRules, model-rules, first-node, rising-first, node-fits, keyAt, keys-rise, here, index-length, few-nodes, zeros-size, putSlot, slot-size, slot-put, slot-tail, held-laid, laid-image}
-use Rattle.wallathi.proofs.Records.{length-record}
 
 -- a slot is 4,096 bytes, whatever it holds
 held-size : (slots s : ℕ) (ns : List Node) → areNodes slots ns ≡ true → length (slotHeld s ns) ≡ 4096
@@ -103,10 +99,6 @@ index-map slots i ns l h r = is-map (indexOf ns) (omega (arith, index-length ns,
     rises [] h r = unfold indexOf in unfold Index.rising in refl
     rises (n ∷ ns) h r = unfold indexOf in unfold Index.rising in above-keys slots i n ns h r
 
--- a state that holds last ID, index and groups
-abbrev stateOf : Id → List Index.Entry → List ℕ → List ℕ
-stateOf last es area = idBytes last ++ (recordBytes es ++ area)
-
 -- store and state for the model m, where the store had these bytes: as many, and the same past the last slot
 pub record Built (i : Lent) (m : Model) : Type 0 where
   pub lent-as : Lent
@@ -115,29 +107,22 @@ pub record Built (i : Lent) (m : Model) : Type 0 where
   pub tail-kept : tailOf lent-as ≡ tailOf i
 
 pub built : (i : Lent) (m : Model) → isModel (slotsOf i) m ≡ true → Built i m
-unfolding lastIn groupsArea
 built i m e =
     let r = model-rules (slotsOf i) m e in
     let w = written (m .nodes) (i .store) (r .nodes-are) (slotsOf i) (omega arith) in
     let store : List ℕ = writeSlots (m .nodes) (i .store) (slotsOf i) in
     let es : List Index.Entry = indexOf (m .nodes) in
     let map : Index.isMap es ≡ true = index-map (slotsOf i) least (m .nodes) (min-le-right (length (i .store) / 4096) 64) (r .nodes-are) (r .rising) in
-    let a = length-id-bytes (m .last) in
-    let b = length-record es map in
     let g = sound (m .last) (m .groups) (r .groups-are) in
-    let c = length-area-bytes (m .last) (m .groups) (g .groups) (g .few) in
-    let state : List ℕ = stateOf (m .last) es (areaBytes (m .groups)) in
+    let x =
+    state-with (m .last) es (areaBytes (m .groups)) (id-fits (m .last) (r .last-fits)) map (length-area-bytes (m .last) (m .groups) (g .groups) (g .few)) in
     record {
-      lent-as = lent store state;
+      lent-as = lent store (x .state);
       holds =
-          laid-image store state m
-          (held-laid store state m
+          laid-image store (x .state) m
+          (held-laid store (x .state) m
           (record { slots-are = λ s h. w .slots-are s (subst (λ (n : ℕ). s < slotsIn n) (w .size) h); rules = subst (λ (n : ℕ). ModelRules (slotsIn n) m) (sym (w .size)) r })
-          (simp length-append (omega (arith, a, b, c)))
-          (ap idFrom (area-left (idBytes (m .last)) (recordBytes es ++ areaBytes (m .groups)) 16 a) ∙ from-bytes-of (m .last) (id-fits (m .last) (r .last-fits)))
-          (index-is state ∙ ap entriesIn (area-middle (idBytes (m .last)) (recordBytes es) (areaBytes (m .groups)) 16 6658 a b) ∙ record-holds es map)
-          (ap (area 6674 57760) (sym (append-assoc (idBytes (m .last)) (recordBytes es) (areaBytes (m .groups))))
-          ∙ area-right (idBytes (m .last) ++ recordBytes es) (areaBytes (m .groups)) 6674 57760 (simp length-append (omega (arith, a, b))) c));
+          (x .size) (x .last-is) (x .holds) (x .groups-are));
       size-kept = w .size;
       tail-kept = ap (λ (n : ℕ). drop (slotsIn n * 4096) store) (w .size) ∙ w .tail;
     }

@@ -1,7 +1,7 @@
 -- Stores that are no image. Assumes nothing.
-use mathlib.Core.Path.{_≡_, refl, sym, ap, ap₂, _∙_, subst}
-use mathlib.Core.Bool.{Bool, true, false}
-use mathlib.Core.List.{List, [], _∷_}
+use mathlib.Core.Path.{_≡_, refl, ap, ap₂, _∙_, subst}
+use mathlib.Core.Bool.{Bool, false}
+use mathlib.Core.List.{List, _∷_}
 use mathlib.Core.Option.{Option, none}
 use Rattle.octets.proofs.Laws.{never}
 use Rattle.stream.specs.Cut.{Model}
@@ -10,7 +10,7 @@ use Rattle.stream.specs.Promise.{Lent, heldBy, FollowsBy}
 use Rattle.snapshot.specs.Command.{Command, onStream, save, load, saveBy, heals}
 use Rattle.snapshot.specs.Promise.{Does, DoesStream}
 use Rattle.wallathi.specs.Export.{Seen, tellTo}
-use Rattle.wallathi.specs.Run.{Call, commandOf, Meets, Made, made-none, made-more}
+use Rattle.wallathi.specs.Run.{Call, commandOf, Made, made-none, made-more}
 use Rattle.wallathi.specs.Demands.{NoneHeals, twos}
 
 two : {T : Type 0} (tell : Answer → T) (c : Command) (i j : Lent) (t : T) → Does tell c i t j → heldBy i ≡ none → heals c ≡ false

@@ -28,11 +28,11 @@ use Rattle.groups.specs.Area.{areaBytes, parseArea, isGroups, mostGroups}
 use Rattle.groups.specs.Answer.{lacksConsumer}
 use Rattle.groups.specs.Step as Groups
 use Rattle.groups.proofs.Laws.{area-parse, put-found-same, deliver-groups, acknowledge-groups, claim-groups, drop-groups, create-groups, destroy-groups}
-use Rattle.stream.specs.Ledger.{Ledger, withMessages, withGroups, messagesAbove}
-use Rattle.stream.specs.Cut.{Node, Model, messagesOf, ledgerOf, isModel, addMessage, lacksSlot, deleteMessage, deleteOldest}
+use Rattle.stream.specs.Ledger.{Ledger, withMessages, messagesAbove}
+use Rattle.stream.specs.Cut.{Node, Model, messagesOf, ledgerOf, isModel, addMessage, lacksSlot, deleteOldest}
 use Rattle.stream.specs.Command as Stream
 use Rattle.stream.specs.Command.{Answer, isRefusal, refused, done, counted}
-use Rattle.stream.specs.LedgerStep.{GroupStep, leaves, refuses, answers, message, clockId, onCreate, onDestroy, onGroup, onTrim, delivers, acknowledges, claims, areArguments}
+use Rattle.stream.specs.LedgerStep.{GroupStep, leaves, message, clockId, onCreate, onGroup, onTrim, delivers, acknowledges, claims, areArguments}
 use Rattle.stream.specs.Step.{Step, step}
 use Rattle.stream.proofs.Laws.{model-rules, model-ledger, ledger-rules, model-of, model-keep, model-delete, model-trim, model-add, renoded, stepOf, regrouped, step-refused, step-stays, step-groups, step-goes, step-asks, step-unruled, step-no-group, step-in-group, Adds, adds-by-id, clock-above, add-no-slip, clock-no-slip, add-low, clock-exhausted, add-large, add-full, add-goes, delete-none, trim-none, messages-delete, messages-oldest, messages-add, delete-differs, trim-differs, add-differs}
 use Rattle.snapshot.specs.Command.{isSetUp}

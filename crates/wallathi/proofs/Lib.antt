@@ -1,4 +1,5 @@
 -- What is told of an answer; the work behind the claims about whole lists of calls, and the claims.
+pub mod Fits
 pub mod Told
 pub mod Turns
 pub mod Runs
@@ -6,7 +7,6 @@ pub mod Saves
 pub mod Loading
 pub mod OneConsumer
 pub mod Damaged
-pub mod Records
 pub mod Built
 pub mod Keeps
 pub mod Possible

@@ -1,5 +1,5 @@
 -- Loads in lists of calls, on whatever bytes: exactly when accepted, and what the store then holds. Assumes nothing.
-use mathlib.Core.Path.{_≡_, refl, sym, ap, _∙_, subst}
+use mathlib.Core.Path.{_≡_, refl, sym, ap, _∙_}
 use mathlib.Core.Bool.{Bool, true, false}
 use mathlib.Core.List.{List, []}
 use mathlib.Core.Option.{Option, some, none, Option·map}
@@ -13,7 +13,6 @@ use Rattle.stream.specs.Ledger.{Ledger}
 use Rattle.stream.specs.Cut.{ledgerOf, slotsIn, freshCut}
 use Rattle.stream.specs.Promise.{Lent, slotsOf}
 use Rattle.stream.proofs.Laws.{fresh-ledger}
-use Rattle.snapshot.specs.Bytes.{snapshotOf}
 use Rattle.snapshot.specs.Parse.{parseSnapshot}
 use Rattle.snapshot.specs.Command.{load}
 use Rattle.snapshot.specs.Promise.{Refuses, LoadsBy, LoadsLedger, LoadsFitting}

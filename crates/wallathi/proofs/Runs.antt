@@ -2,7 +2,7 @@
 use mathlib.Core.Path.{_≡_, refl, sym, ap, ap₂, _∙_, subst}
 use mathlib.Core.Bool.{Bool, true, false}
 use mathlib.Core.List.{List, [], _∷_, _++_}
-use mathlib.Core.Option.{Option, some, none, Option·map}
+use mathlib.Core.Option.{Option, some, Option·map}
 use Prim.Native.Nat.{ℕ, suc}
 use native.Mathlib.Omega.{arith}
 use lib.Dec.{eqb}
@@ -25,7 +25,7 @@ use Rattle.wallathi.specs.Export.{Seen, tellTo}
 use Rattle.wallathi.specs.Run.{Call, plain, commandOf, Meets, Made, made-none, made-more}
 use Rattle.wallathi.specs.Demands as demands
 use Rattle.wallathi.specs.Demands.{Kept, fresh, modelBy, plainCall, keptAfter, seenOf, AsLedger, OneAnswer}
-use Rattle.wallathi.proofs.Turns.{Turned, does-turn}
+use Rattle.wallathi.proofs.Turns.{does-turn}
 
 -- what is held keeps every rule
 pub held-rules : (i : Lent) (m : Model) → heldBy i ≡ some m → isModel (slotsOf i) m ≡ true
