@@ -30,7 +30,7 @@ pub use Rattle.radix.proofs.Under.{under, remainders, entries-before, e
 pub use Rattle.radix.proofs.Sorted.{before-over, before-under}
 pub use Rattle.radix.proofs.Labels.{after-all, after-keep, before-all, before-keep, starts-append, starts-split}
 pub use Rattle.radix.proofs.Rules.{Rules, Some, canonical-rules, end-held, held-entries, leaf, oneOf, only, rules-from, rules-some, some-under}
-pub use Rattle.radix.proofs.Turns.{Turn, find-below, find-fits, find-next, find-none, find-own, laid-on, leads-on, leads-to, nil-leads, starts-all, starts-next, starts-short, starts-stop, tree-end, tree-nil, tree-node, tree-not, tree-out}
+pub use Rattle.radix.proofs.Turns.{Turn, step, find-below, find-fits, find-next, find-none, find-own, laid-on, leads-on, leads-to, nil-leads, starts-all, starts-next, starts-short, starts-stop, tree-end, tree-nil, tree-node, tree-not, tree-out}
 pub use Rattle.radix.proofs.Back.{shape-back, shape-canonical}
 pub use Rattle.radix.proofs.Bounds.{nodes-suffice}
 pub use Rattle.radix.proofs.Fields.{AllBelow, Fields}
@@ -40,7 +40,7 @@ pub use Rattle.radix.proofs.Whole.{shape-gathered, not-canonical, not-g
 pub use Rattle.radix.proofs.Listing.{none-listed, root-within, lists-none, lists-some, tree-listed}
 -- what a walk over a record tests, one node and one place at a time
 pub use Rattle.radix.proofs.Local.{not-several, by-next, only-empty, only-key, only-parted, one-long, one-low, one-key, one-below}
-pub use Rattle.radix.proofs.Tidy.{free-len, free-key, free-child, free-next, free-val, free-label, tidy-long, tidy-flag, tidy-tail}
+pub use Rattle.radix.proofs.Tidy.{free-len, free-key, free-child, free-next, free-val, free-label, tidy-long, tidy-flag, tidy-tail, zero-part}
 pub use Rattle.radix.proofs.Gathers.{gather-nil, gather-deep, gather-full, gather-below, gather-later, own-none, own-full, own-added}
 
 labels-short : (before : List ℕ) (s : Shape) (old all : List Entry) → gathered before s old ≡ some all → Labels s

@@ -81,7 +81,7 @@ unfolding treeAt
 tree-nil x zero = refl
 tree-nil x (suc most) = refl
 
-step : (x : Nodes) (most p : ℕ) → p < 256
+pub step : (x : Nodes) (most p : ℕ) → p < 256
     → treeAt (suc most) x (suc p) ≡ node (labelOf x p) (valueOf x p) (treeAt most x (getD (x .child) p 0)) (treeAt most x (getD (x .next) p 0))
 unfolding treeAt
 step x most p h = rw (lt-ltb p 256 h)

@@ -11,7 +11,8 @@ use Rattle.octets.specs.Pick.{pick, both}
 use Rattle.octets.specs.Bytes.{leValue, zeros}
 use Rattle.octets.specs.Place.{area}
 use Rattle.octets.specs.Compare.{allZero}
-use Rattle.octets.proofs.Laws.{part-area, pick-same, both-of, both-true, zero-all, all-zero, value-le-zeros, length-area, getD-area, area-area, area-zeros}
+use Rattle.octets.proofs.Laws.{pick-same, both-of, both-true, zero-all, all-zero, value-le-zeros, length-area, getD-area, area-area, area-zeros}
+use Rattle.radix.proofs.Laws.{zero-part as part-is}
 use Rattle.radix.specs.Record.{Nodes, isFree}
 use Rattle.radix_bytes.specs.Bytes.{poolIn}
 use Rattle.radix_bytes.proofs.Laws.{len-of, key-of, child-of, next-of, value-of, label-of}
@@ -83,13 +84,10 @@ pub rest-zero : (s m : List ℕ) (p : ℕ) → length s ≡ 6658 → p ≤ 256 �
 rest-zero s m p l h z = free-all (poolIn s) m p (256 - p) (λ q a b. zero-free s p q l z a (omega arith))
 
 -- the fields in the order of the test; each is a part of the bytes
-part-zero : (s : List ℕ) (a n m : ℕ) → n ≡ m → allZero (take n (drop a s)) ≡ allZero (area a m s)
-part-zero s a n m e = ap allZero (part-area a n s ∙ ap (λ (k : ℕ). area a k s) e)
-
 module _ (s : List ℕ) (p : ℕ) (h : p ≤ 256) where
   module _ (t1 : Bool) (e1 : t1 ≡ allZero (take (6658 - (2562 + 16 * p)) (drop (2562 + 16 * p) s))) where
     field-1 : t1 ≡ allZero (area (2562 + 16 * p) (4096 - 16 * p) s)
-    field-1 = e1 ∙ part-zero s (2562 + 16 * p) (6658 - (2562 + 16 * p)) (4096 - 16 * p) (omega arith)
+    field-1 = e1 ∙ part-is s (2562 + 16 * p) (6658 - (2562 + 16 * p)) (4096 - 16 * p) (omega arith)
 
     pub zero-1 : t1 ≡ false → false ≡ zeroFrom s p
     unfolding zeroFrom
@@ -98,7 +96,7 @@ module _ (s : List ℕ) (p : ℕ) (h : p ≤ 256) where
     module _ (y1 : t1 ≡ true) where
       module _ (t2 : Bool) (e2 : t2 ≡ allZero (take (2562 - (1538 + 4 * p)) (drop (1538 + 4 * p) s))) where
         field-2 : t2 ≡ allZero (area (1538 + 4 * p) (1024 - 4 * p) s)
-        field-2 = e2 ∙ part-zero s (1538 + 4 * p) (2562 - (1538 + 4 * p)) (1024 - 4 * p) (omega arith)
+        field-2 = e2 ∙ part-is s (1538 + 4 * p) (2562 - (1538 + 4 * p)) (1024 - 4 * p) (omega arith)
 
         pub zero-2 : t2 ≡ false → false ≡ zeroFrom s p
         unfolding zeroFrom
@@ -107,7 +105,7 @@ module _ (s : List ℕ) (p : ℕ) (h : p ≤ 256) where
         module _ (y2 : t2 ≡ true) where
           module _ (t3 : Bool) (e3 : t3 ≡ allZero (take (1538 - (1026 + 2 * p)) (drop (1026 + 2 * p) s))) where
             field-3 : t3 ≡ allZero (area (1026 + 2 * p) (512 - 2 * p) s)
-            field-3 = e3 ∙ part-zero s (1026 + 2 * p) (1538 - (1026 + 2 * p)) (512 - 2 * p) (omega arith)
+            field-3 = e3 ∙ part-is s (1026 + 2 * p) (1538 - (1026 + 2 * p)) (512 - 2 * p) (omega arith)
 
             pub zero-3 : t3 ≡ false → false ≡ zeroFrom s p
             unfolding zeroFrom
@@ -116,7 +114,7 @@ module _ (s : List ℕ) (p : ℕ) (h : p ≤ 256) where
             module _ (y3 : t3 ≡ true) where
               module _ (t4 : Bool) (e4 : t4 ≡ allZero (take (1026 - (514 + 2 * p)) (drop (514 + 2 * p) s))) where
                 field-4 : t4 ≡ allZero (area (514 + 2 * p) (512 - 2 * p) s)
-                field-4 = e4 ∙ part-zero s (514 + 2 * p) (1026 - (514 + 2 * p)) (512 - 2 * p) (omega arith)
+                field-4 = e4 ∙ part-is s (514 + 2 * p) (1026 - (514 + 2 * p)) (512 - 2 * p) (omega arith)
 
                 pub zero-4 : t4 ≡ false → false ≡ zeroFrom s p
                 unfolding zeroFrom
@@ -125,7 +123,7 @@ module _ (s : List ℕ) (p : ℕ) (h : p ≤ 256) where
                 module _ (y4 : t4 ≡ true) where
                   module _ (t5 : Bool) (e5 : t5 ≡ allZero (take (514 - (258 + p)) (drop (258 + p) s))) where
                     field-5 : t5 ≡ allZero (area (258 + p) (256 - p) s)
-                    field-5 = e5 ∙ part-zero s (258 + p) (514 - (258 + p)) (256 - p) (omega arith)
+                    field-5 = e5 ∙ part-is s (258 + p) (514 - (258 + p)) (256 - p) (omega arith)
 
                     pub zero-5 : t5 ≡ false → false ≡ zeroFrom s p
                     unfolding zeroFrom
@@ -134,4 +132,4 @@ module _ (s : List ℕ) (p : ℕ) (h : p ≤ 256) where
                     module _ (y5 : t5 ≡ true) where
                       pub zero-6 : (t6 : Bool) → t6 ≡ allZero (take (258 - (2 + p)) (drop (2 + p) s)) → t6 ≡ zeroFrom s p
                       unfolding zeroFrom
-                      zero-6 t6 e = rw (← field-1, y1, ← field-2, y2, ← field-3, y3, ← field-4, y4, ← field-5, y5) (e ∙ part-zero s (2 + p) (258 - (2 + p)) (256 - p) (omega arith))
+                      zero-6 t6 e = rw (← field-1, y1, ← field-2, y2, ← field-3, y3, ← field-4, y4, ← field-5, y5) (e ∙ part-is s (2 + p) (258 - (2 + p)) (256 - p) (omega arith))

@@ -7,11 +7,11 @@ use Prim.Native.Nat.{ℕ, zero, suc, _+_, _≤_, _<_}
 use native.Mathlib.Omega.{arith}
 use borrow.Author.Tests.{eqb-true, eqb-false, ne-eqb, ltb-true, ltb-false}
 use lib.Dec.{ltb, eqb}
-use lib.ListN.{length, getD, set, length-set, length-replicate, List·getD-eq-default}
+use lib.ListN.{length, getD, set, length-set, length-replicate, getD-replicate, List·getD-eq-default}
 use lib.Seq.{getD-set-same, getD-set-other}
 use Rattle.octets.specs.Pick.{pick, both}
 use Rattle.octets.specs.Bytes.{zeros}
-use Rattle.octets.proofs.Laws.{both-true, both-of, never}
+use Rattle.octets.proofs.Laws.{both-true, both-of, never, by-order}
 use Rattle.keys.specs.Entries.{Entry}
 use Rattle.keys.specs.Listing.{IsSound}
 use Rattle.radix.specs.Shape.{Shape}
@@ -22,11 +22,6 @@ use Rattle.radix.specs.declared.Index.{Index}
 use Rattle.radix.proofs.Laws.{holds, is-gathered, shape-gathered, shape-canonical}
 use Rattle.radix_judge.specs.Visit.{Seen, visit, areFree, restFree, isSound}
 use Rattle.radix_judge.proofs.Walks.{AllTidy, Walked, walked, visits, marks-stay, marks-long}
-
-zeros-get : (n q : ℕ) → getD (zeros n) q 0 ≡ 0
-zeros-get zero q = refl
-zeros-get (suc n) zero = refl
-zeros-get (suc n) (suc q) = zeros-get n q
 
 -- every place: free without a mark, in use with one
 module _ (x : Nodes) (m : List ℕ) where
@@ -89,9 +84,14 @@ module _ (x : Index) (size : length (x .label) ≡ 4096) where
   tidy-all : (r : Seen) → Walked 256 (nodesOf x) true 0 (getD (x .child) (x .root) 0) 0 0 start r → isTidy (nodesOf x) (x .root) ≡ true → AllTidy (nodesOf x) (r .marks)
   tidy-all r w t q z = go (eqb q (x .root)) refl
     where
+      none-marked : getD (zeros 256) q 0 ≡ 0
+      none-marked =
+          by-order q 256 (getD-replicate 256 q 0 0) (λ h. List·getD-eq-default (zeros 256) 0 (omega (arith, length-replicate {A = ℕ} 256 0)))
+          (λ h. List·getD-eq-default (zeros 256) 0 (omega (arith, length-replicate {A = ℕ} 256 0)))
+
       go : (b : Bool) → eqb q (x .root) ≡ b → isTidy (nodesOf x) q ≡ true
       go true e = ap (isTidy (nodesOf x)) (eqb-true q (x .root) e) ∙ t
-      go false e = w .tidy q (getD-set-other (zeros 256) (x .root) q 1 0 (eqb-false q (x .root) e) ∙ zeros-get 256 q) z
+      go false e = w .tidy q (getD-set-other (zeros 256) (x .root) q 1 0 (eqb-false q (x .root) e) ∙ none-marked) z
 
   abbrev Held : Type 0
   Held = (fs : List Entry) × (gathered [] (treeOf x) [] ≡ some fs) × (entriesOf x ≡ some fs)

@@ -19,7 +19,7 @@ use Rattle.radix.specs.Shape.{Shape, nil, node, firstByte}
 use Rattle.radix.specs.Canon.{rules}
 use Rattle.radix.specs.Record.{Nodes, labelOf, valueOf, treeAt, ruleAt, marksFrom, isFlag, isTidy}
 use Rattle.radix.specs.Gathering.{withOwn, gathered}
-use Rattle.radix.proofs.Laws.{tree-nil}
+use Rattle.radix.proofs.Laws.{step, tree-nil}
 use Rattle.radix_judge.specs.Visit.{Seen, seen, isFit, visit}
 
 -- a key flag is 0 or 1
@@ -77,11 +77,6 @@ flag-of : (x : Nodes) (p : ℕ) → isTidy x p ≡ true → isFlag (getD (x .key
 unfolding isTidy
 flag-of x p e = both-true (isFlag (getD (x .key) p 0) (getD (x .val) p 0)) _ (both-true (leb (getD (x .len) p 0) 16) _ e .1) .0
 
-tree-at : (x : Nodes) (most p : ℕ) → p < 256
-    → treeAt (suc most) x (suc p) ≡ node (labelOf x p) (valueOf x p) (treeAt most x (getD (x .child) p 0)) (treeAt most x (getD (x .next) p 0))
-unfolding treeAt
-tree-at x most p h = rw (lt-ltb p 256 h)
-
 -- what a walk that answers r says
 pub record Walked (most : ℕ) (x : Nodes) (first : Bool) (least link d n : ℕ) (marks : List ℕ) (r : Seen) : Type 0 where
   pub marked : marksFrom most (x .child) (x .next) link marks ≡ some (r .marks)
@@ -121,7 +116,7 @@ module _ (x : Nodes) (size : length (x .label) ≡ 4096) (most p : ℕ) (h : p <
 
     all-kept : Below → Later → rules first least (treeAt (suc most) x (suc p)) ≡ true
     unfolding rules ruleAt
-    all-kept a b = ap (rules first least) (tree-at x most p h) ∙ both-of (f .rule) (both-of (a .kept) (b .kept))
+    all-kept a b = ap (rules first least) (step x most p h) ∙ both-of (f .rule) (both-of (a .kept) (b .kept))
 
     all-rows : Below → Later → (before : List ℕ) (es : List Entry) → length before ≡ d → length es ≡ n → (fs : List Entry) × (gathered before (treeAt (suc most) x (suc p)) es ≡ some fs) × (length fs ≡ s .keys)
     unfolding gathered
@@ -130,7 +125,7 @@ module _ (x : Nodes) (size : length (x .label) ≡ 4096) (most p : ℕ) (h : p <
         let low = a .rows (before ++ labelOf x p) (own .0) (omega (arith, length-append before (labelOf x p), long, bl)) (omega (arith, own .2, el)) in
         let rest = b .rows before (low .0) bl (low .2) in
         let deep : length before + length (labelOf x p) ≤ 16 = omega (arith, long, bl, f .short) in
-        (rest .0, rw (tree-at x most p h, le-leb (length before + length (labelOf x p)) 16 deep, own .1, low .1) (rest .1), rest .2)
+        (rest .0, rw (step x most p h, le-leb (length before + length (labelOf x p)) 16 deep, own .1, low .1) (rest .1), rest .2)
 
     all-tidy : Below → Later → (q : ℕ) → getD marks q 0 ≡ 0 → (getD (s .marks) q 0 ≡ 0 → ⊥) → isTidy x q ≡ true
     all-tidy a b q y w = after (eqb (getD (r .marks) q 0) 0) refl
@@ -227,9 +222,9 @@ visits x size (suc most) first least (suc p) d n m o before es fs ml l bl el em 
     let h : p < 256 = ltb-true p 256 (q .0) in
     answered (marksFrom most (x .child) (x .next) (getD (x .child) p 0) (set m p 1)) _ u
     (λ c y g.
-    let r = both-true (ruleAt first least most x p) _ (sym (ap (rules first least) (tree-at x most p h)) ∙ er) in
+    let r = both-true (ruleAt first least most x p) _ (sym (ap (rules first least) (step x most p h)) ∙ er) in
     let rr = both-true (rules true 0 (treeAt most x (getD (x .child) p 0))) _ (r .1) in
-    needed (leb (length before + length (labelOf x p)) 16) _ (sym (ap (λ (s : Shape). gathered before s es) (tree-at x most p h)) ∙ eg)
+    needed (leb (length before + length (labelOf x p)) 16) _ (sym (ap (λ (s : Shape). gathered before s es) (step x most p h)) ∙ eg)
     (λ deep v.
     answered (withOwn (before ++ labelOf x p) (valueOf x p) es) _ v
     (λ gs own w.
