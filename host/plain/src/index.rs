@@ -65,8 +65,8 @@ fn first_bytes(key: u128, count: usize) -> u128 {
     key & !(u128::MAX.checked_shr(8 * count as u32).unwrap_or(0))
 }
 
-/// A node that is still to be visited: its place, the depth of its parent, the path to that, and the first byte of the label
-/// of the sibling before it.
+/// A node to be visited: the link to it, the depth of its parent and the path to that, and the first byte of the label of the sibling
+/// before it.
 #[derive(Clone, Copy)]
 struct Visit {
     link: usize,
@@ -75,67 +75,84 @@ struct Visit {
     after: Option<u8>,
 }
 
+/// A record, the places that no visit has come to, and the entries found.
+struct Reader<'a> {
+    record: &'a Record,
+    free: [u8; POOL_NODES],
+    entries: Entries,
+}
+
+impl Reader<'_> {
+    /// Takes a place; none where it is taken.
+    #[inline(always)]
+    fn take(&mut self, place: usize) -> Option<()> {
+        let free = self.free.get_mut(place)?;
+        (std::mem::take(free) != 0).then_some(())
+    }
+
+    /// The root has no label, no value and no sibling.
+    fn root(&mut self) -> Option<Visit> {
+        let (record, place) = (self.record, number_at(self.record, 0));
+        self.take(place)?;
+        let next = number_at(record, NEXT + 2 * place);
+        let is_bare = record[LEN + place] == 0 && record[KEY + place] == 0 && next == 0;
+        let link = number_at(record, CHILD + 2 * place);
+        let visit = Visit { link, depth: 0, path: 0, after: None };
+        (is_bare && value_at(record, place) == 0 && label_at(record, place) == 0).then_some(visit)
+    }
+
+    /// The first child and the next sibling of a node, where there are such, and the node is one of the shape.
+    #[inline(always)]
+    fn visit(&mut self, visit: Visit) -> Option<(Option<Visit>, Option<Visit>)> {
+        let (record, place) = (self.record, visit.link - 1);
+        self.take(place)?;
+        let (length, label) = (usize::from(record[LEN + place]), label_at(record, place));
+        let (child, next) = (number_at(record, CHILD + 2 * place), number_at(record, NEXT + 2 * place));
+        let (depth, first) = (visit.depth + length, (label >> 120) as u8);
+        let is_only = visit.after.is_none() && next == 0;
+        let rises = visit.after.is_none_or(|before| first > before);
+        if length == 0 || depth > LONGEST_KEY || length > 1 && !is_only || !rises {
+            return None;
+        }
+        if first_bytes(label, length) != label {
+            return None;
+        }
+        let sibling = (next != 0).then_some(Visit { link: next, after: Some(first), ..visit });
+        let path = visit.path | label >> (8 * visit.depth);
+        if depth == LONGEST_KEY {
+            self.entries.push(path, value_at(record, place))?;
+            return (record[KEY + place] == 1 && child == 0).then_some((None, sibling));
+        }
+        // An only child that has one child itself would be one node with it.
+        let is_key = record[KEY + place] != 0 || value_at(record, place) != 0;
+        let is_split =
+            is_only && (1..=POOL_NODES).contains(&child) && number_at(record, NEXT + 2 * (child - 1)) == 0;
+        let visit = Visit { link: child, depth, path, after: None };
+        (!is_key && child != 0 && !is_split).then_some((Some(visit), sibling))
+    }
+}
+
 /// The entries of a record; none where it is not the shape of any set of keys of 16 bytes.
 pub fn read(record: &Record) -> Option<Entries> {
-    let mut entries = Entries::new();
-    let mut free = [0xFF; POOL_NODES];
-    let root = number_at(record, 0);
-    *free.get_mut(root)? = 0;
-    let is_plain = record[LEN + root] == 0 && record[KEY + root] == 0 && value_at(record, root) == 0;
-    if !is_plain || label_at(record, root) != 0 || number_at(record, NEXT + 2 * root) != 0 {
-        return None;
-    }
+    let mut reader = Reader { record, free: [0xFF; POOL_NODES], entries: Entries::new() };
+    let first = reader.root()?;
     // One sibling waits at each depth.
-    let mut waiting = [Visit { link: 0, depth: 0, path: 0, after: None }; LONGEST_KEY + 1];
-    waiting[0].link = number_at(record, CHILD + 2 * root);
-    let mut left = usize::from(waiting[0].link != 0);
-    while left > 0 {
-        left -= 1;
-        let mut visit = waiting[left];
-        // Down to a leaf; the next sibling of each node on the way waits.
-        loop {
-            let place = visit.link - 1;
-            if *free.get(place)? == 0 {
-                return None;
-            }
-            free[place] = 0;
-            let (length, label) = (usize::from(record[LEN + place]), label_at(record, place));
-            let next = number_at(record, NEXT + 2 * place);
-            let is_only = visit.after.is_none() && next == 0;
-            let first = (label >> 120) as u8;
-            let depth = visit.depth + length;
-            let rises = visit.after.is_none_or(|before| first > before);
-            if length == 0 || depth > LONGEST_KEY || length > 1 && !is_only || !rises {
-                return None;
-            }
-            if first_bytes(label, length) != label {
-                return None;
-            }
-            if next != 0 {
-                waiting[left] = Visit { link: next, after: Some(first), ..visit };
-                left += 1;
-            }
-            let path = visit.path | label >> (8 * visit.depth);
-            let child = number_at(record, CHILD + 2 * place);
-            if depth == LONGEST_KEY {
-                if record[KEY + place] != 1 || child != 0 {
-                    return None;
-                }
-                entries.push(path, value_at(record, place))?;
-                break;
-            }
-            // An only child that has one child itself would be one node with it.
-            let is_key = record[KEY + place] != 0 || value_at(record, place) != 0;
-            if is_key || !(1..=POOL_NODES).contains(&child) {
-                return None;
-            }
-            if is_only && number_at(record, NEXT + 2 * (child - 1)) == 0 {
-                return None;
-            }
-            visit = Visit { link: child, depth, path, after: None };
+    let mut waiting = [first; LONGEST_KEY];
+    let mut left = 0;
+    let mut next = (first.link != 0).then_some(first);
+    while let Some(visit) = next {
+        let (child, sibling) = reader.visit(visit)?;
+        if let Some(sibling) = sibling {
+            waiting[left] = sibling;
+            left += 1;
+        }
+        next = child;
+        if next.is_none() && left > 0 {
+            left -= 1;
+            next = Some(waiting[left]);
         }
     }
-    is_clear(record, &free).then_some(entries)
+    is_clear(record, &reader.free).then_some(reader.entries)
 }
 
 /// Whether free places are all zero; each loop is one that the compiler can widen.

@@ -164,12 +164,13 @@ fn time() {
 }
 
 fn instructions() {
+    let run = |store: usize, number: usize, side: usize, calls: usize| {
+        let words = [store, number, side, calls].map(|word| word.to_string());
+        measure::instructions_of(&[&["run"], &words.each_ref().map(String::as_str)[..]].concat())
+    };
+    let prepared: Vec<f64> = (0..FILLS.len()).map(|store| run(store, 0, 0, 0)).collect();
     let figures = |store: usize, number: usize| {
-        let run = |side: usize, calls: usize| {
-            let words = [store, number, side, calls].map(|word: usize| word.to_string());
-            measure::instructions_of(&[&["run"], &words.each_ref().map(String::as_str)[..]].concat())
-        };
-        [0, 1].map(|side| (run(side, CALLS) - run(side, 0)) / CALLS as f64)
+        [0, 1].map(|side| (run(store, number, side, CALLS) - prepared[store]) / CALLS as f64)
     };
     let told = |[proved, plain]: [f64; 2], [judged, plain_judged]: [f64; 2]| {
         let own = if judged == proved {

@@ -4,7 +4,7 @@ use wallathi_model::generate::{self, Commands, Mood};
 use wallathi_model::groups::{self, MOST_GROUPS, REGION_BYTES};
 use wallathi_model::id::Id;
 use wallathi_model::image;
-use wallathi_model::index::record;
+use wallathi_model::index::record::{self, Field};
 use wallathi_model::index::{Index, POOL_NODES};
 use wallathi_model::ledger::{Cut, Ledger, Model, Store};
 use wallathi_model::node;
@@ -175,6 +175,40 @@ fn images_handed_in() {
     }
 }
 
+/// A run of an index record becomes two nodes: the same entries, but not their shape.
+fn split_a_run(rng: &mut Rng, record: &mut [u8]) {
+    let (_, places) = record::read(record).expect("an index");
+    let runs: Vec<usize> =
+        places.iter().copied().filter(|&place| Field::LEN.get(record, place) >= 2).collect();
+    let free = (0..POOL_NODES).find(|place| !places.contains(place));
+    let (Some(&run), Some(free)) = (runs.first(), free) else { return };
+    let length = Field::LEN.get(record, run);
+    let kept = 1 + rng.size_below(length - 1);
+    for field in [Field::KEY, Field::VAL, Field::CHILD] {
+        field.set(record, free, field.get(record, run));
+        field.set(record, run, 0);
+    }
+    Field::LEN.set(record, free, length - kept);
+    Field::LEN.set(record, run, kept);
+    let label = record[Field::LABEL.at(run)].to_vec();
+    record[Field::LABEL.at(free)][..length - kept].copy_from_slice(&label[kept..length]);
+    record[Field::LABEL.at(run)][kept..].fill(0);
+    Field::CHILD.set(record, run, 1 + free);
+}
+
+/// A field of a node of an index record gets another number, or what another node has.
+fn change_a_field(rng: &mut Rng, record: &mut [u8]) {
+    let (_, places) = record::read(record).expect("an index");
+    let (a, b) = (*rng.pick(&places), *rng.pick(&places));
+    let fields = [Field::LEN, Field::KEY, Field::CHILD, Field::NEXT, Field::VAL, Field::LABEL];
+    let field = *rng.pick(&fields);
+    match rng.below(3) {
+        0 => rng.pick(&[Field::CHILD, Field::NEXT]).set(record, a, 1 + b),
+        1 => fields[rng.size_below(5)].set(record, a, *rng.pick(&[0, 1, 2, 255, 256, 257])),
+        _ => field.at(a).zip(field.at(b)).for_each(|(a, b)| record.swap(a, b)),
+    }
+}
+
 /// Whole parts exchanged, taken away or put in.
 fn change_a_part(rng: &mut Rng, lent: &mut Lent, model: &Model) {
     let slots = model.cut.slots.len();
@@ -182,7 +216,7 @@ fn change_a_part(rng: &mut Rng, lent: &mut Lent, model: &Model) {
     let (region, other) = (rng.size_below(MOST_GROUPS), rng.size_below(MOST_GROUPS));
     let mut index = image::index(&model.cut);
     let keys: Vec<Vec<u8>> = index.entries().map(|(key, _)| key.to_vec()).collect();
-    match rng.below(12) {
+    match rng.below(14) {
         0 => (0..SLOT).for_each(|at| lent.store_mut().swap(a * SLOT + at, b * SLOT + at)),
         1 => lent.store_mut().copy_within(a * SLOT..(a + 1) * SLOT, b * SLOT),
         2 => lent.store_mut()[a * SLOT..(a + 1) * SLOT].fill(0),
@@ -217,6 +251,8 @@ fn change_a_part(rng: &mut Rng, lent: &mut Lent, model: &Model) {
                 [Id::new(last.ms.wrapping_sub(1), last.seq), Id::new(last.ms, last.seq.wrapping_sub(1))];
             lent.state_mut()[..RECORD].copy_from_slice(&rng.pick(&near).to_bytes());
         }
+        11 => split_a_run(rng, &mut lent.state_mut()[RECORD..REGIONS]),
+        12 => change_a_field(rng, &mut lent.state_mut()[RECORD..REGIONS]),
         _ => set_index(rng, lent, &index),
     }
 }

@@ -76,7 +76,7 @@ fn a_hundred_live_messages_in_a_node() {
 }
 
 /// A message of one value, as long as makes a node of this many bytes of it and what the node has.
-fn filling(node: Option<&Node>, id: Id, bytes: usize) -> Message {
+pub fn filling(node: Option<&Node>, id: Id, bytes: usize) -> Message {
     let size = |pairs: &Message| match node {
         Some(node) => node.with(id, pairs).size(),
         None => Node::of_one(id, pairs.clone()).size(),

@@ -7,6 +7,7 @@ mod files;
 mod lent;
 mod limits;
 mod lists;
+mod nodes;
 mod pointers;
 mod sides;
 
