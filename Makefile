@@ -1,0 +1,38 @@
+# Both libraries with their headers, manual pages and pkg-config files. `make install PREFIX=/usr DESTDIR=..`
+PREFIX = /usr/local
+DESTDIR =
+VERSION = 0.1.0
+INSTALL = install
+
+libraries = wallathi wallathi_index
+archives = $(libraries:%=target/staticlib/lib%.a)
+pages = $(libraries:%=target/man/%.3)
+packages = $(libraries:%=target/pkgconfig/%.pc)
+
+all: $(archives) $(pages) $(packages)
+
+# The proofs run first.
+target/staticlib/lib%.a:
+	rt staticlib $*
+
+target/man/%.3: host/include/%.h host/manpage
+	mkdir -p target/man
+	host/manpage $< >$@
+
+target/pkgconfig/%.pc: Makefile
+	mkdir -p target/pkgconfig
+	printf 'prefix=%s\nName: %s\nDescription: %s\nVersion: %s\nCflags: -I$${prefix}/include\nLibs: -L$${prefix}/lib -l%s\n' \
+	    '$(PREFIX)' '$*' '$(description_$*)' '$(VERSION)' '$*' >$@
+
+description_wallathi = A proved message store in lent bytes
+description_wallathi_index = A proved index of up to 64 keys in lent bytes
+
+install: all
+	$(INSTALL) -d $(DESTDIR)$(PREFIX)/lib/pkgconfig $(DESTDIR)$(PREFIX)/include $(DESTDIR)$(PREFIX)/share/man/man3
+	$(INSTALL) -m 644 $(archives) $(DESTDIR)$(PREFIX)/lib
+	$(INSTALL) -m 644 $(packages) $(DESTDIR)$(PREFIX)/lib/pkgconfig
+	$(INSTALL) -m 644 $(libraries:%=host/include/%.h) $(DESTDIR)$(PREFIX)/include
+	$(INSTALL) -m 644 $(pages) $(DESTDIR)$(PREFIX)/share/man/man3
+
+.PHONY: all install
+.SECONDARY:

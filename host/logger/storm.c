@@ -1,0 +1,254 @@
+/* A simulated storm, end to end: three stations log for three hours, an analyst reads along, the file goes to a second institute, and the
+ * eastern curve is drawn with its gaps. `storm FOLDER` leaves everything in FOLDER. */
+#include <errno.h>
+#include <inttypes.h>
+#include <math.h>
+#include <stdio.h>
+#include <stdlib.h>
+#include <string.h>
+
+#include "logger.h"
+#include "picture.h"
+#include "refusals.h"
+
+enum {
+    SECONDS = 3 * 3600,
+    PEAK = 2 * 3600,        /* the height of the storm */
+    SILENT_FROM = PEAK - 120, /* the eastern station gives nothing */
+    SILENT_TO = PEAK + 60,
+    TRUE_ZERO = PEAK + 300,
+    KEEP = 5400,            /* the newest hour and a half */
+    SAVE_EVERY = 600,
+    READ_EVERY = 60
+};
+
+static const uint64_t START_MS = 1794355200000u; /* 2026-11-11 00:00:00 UTC */
+static const char *const CHANNELS[] = {"west", "middle", "east"};
+
+static struct logger ours, theirs;
+static struct point curve[SECONDS];
+
+static void stop(const char *what, uint32_t code)
+{
+    const char *why = code == LOGGER_SYSTEM ? strerror(errno) : wallathi_refusal_text(code);
+    fprintf(stderr, "storm: %s: %s (%" PRIu32 ")\n", what, why, code);
+    exit(1);
+}
+
+static void must(const char *what, uint32_t code)
+{
+    if (code != 0) {
+        stop(what, code);
+    }
+}
+
+/* The earth potential at a station: tides and pulsations, and the storm around its peak. */
+static int32_t potential(int station, int second)
+{
+    double t = second, from_peak = (t - PEAK) / 900.0;
+    double quiet = 120 * sin(t / 1900 + station) + 30 * sin(t / 41 + 2 * station);
+    double storm = 2600 * exp(-from_peak * from_peak) * sin(t / 57 + 0.7 * station) * (1 + 0.3 * station);
+    return (int32_t)lround(quiet + storm);
+}
+
+/* Whether a channel gave a sample: the eastern station fell silent at the height of the storm, and single seconds are lost now and then. */
+static int gave_sample(int station, int second)
+{
+    int silent = station == 2 && SILENT_FROM <= second && second < SILENT_TO;
+    int lost = (second * 7 + station * 131) % 1009 == 5;
+    return !silent && !lost;
+}
+
+static size_t samples_at(int second, struct sample *samples)
+{
+    size_t n = 0;
+    for (int station = 0; station < 3; station++) {
+        if (gave_sample(station, second)) {
+            int32_t value = potential(station, second);
+            if (station == 2 && value == 0 && second != TRUE_ZERO) {
+                value = 1; /* one zero alone is measured in this storm */
+            }
+            samples[n].channel = CHANNELS[station];
+            samples[n].value = station == 2 && second == TRUE_ZERO ? 0 : value;
+            n++;
+        }
+    }
+    return n;
+}
+
+static const uint8_t *bytes_of(const char *text)
+{
+    return (const uint8_t *)text;
+}
+
+/* The analyst takes what is new and acknowledges it, but for every 500th, over which the work was interrupted. */
+static void read_along(uint64_t now)
+{
+    static uint64_t taken;
+    uint64_t ms, seq, count;
+    for (;;) {
+        uint32_t code = wallathi_group_read(ours.store, sizeof ours.store, ours.state, bytes_of("curves"), 6, bytes_of("analyst"), 7, now, &ms, &seq);
+        if (code == 32) {
+            return;
+        }
+        must("group read", code);
+        if (++taken % 500 != 0) {
+            must("acknowledge", wallathi_acknowledge(ours.store, sizeof ours.store, ours.state, bytes_of("curves"), 6, ms, seq, &count));
+        }
+    }
+}
+
+/* A colleague takes over what has been pending for ten minutes; answers how many. */
+static uint64_t take_over(uint64_t now)
+{
+    uint64_t ms = 0, seq = 0, time, times, lives, count, moved = 0;
+    while (wallathi_next_pending(ours.store, sizeof ours.store, ours.state, bytes_of("curves"), 6, bytes_of("analyst"), 7, ms, seq, &ms, &seq, &time, &times, &lives) == 0) {
+        uint32_t code = wallathi_claim(ours.store, sizeof ours.store, ours.state, bytes_of("curves"), 6, bytes_of("relief"), 6, 600000, ms, seq, now);
+        if (code == 34) {
+            continue;
+        }
+        must("claim", code);
+        must("acknowledge", wallathi_acknowledge(ours.store, sizeof ours.store, ours.state, bytes_of("curves"), 6, ms, seq, &count));
+        moved++;
+    }
+    return moved;
+}
+
+static void log_storm(void)
+{
+    uint64_t trimmed, all_trimmed = 0, saves = 0;
+    for (int second = 0; second < SECONDS; second++) {
+        struct sample samples[3];
+        size_t n = samples_at(second, samples);
+        uint64_t now = START_MS + 1000u * (uint64_t)second;
+        if (n != 0) {
+            must("add", logger_add(&ours, now, samples, n, KEEP, &trimmed));
+            all_trimmed += trimmed;
+        }
+        if (second % READ_EVERY == READ_EVERY - 1) {
+            read_along(now);
+        }
+        if (second % SAVE_EVERY == SAVE_EVERY - 1) {
+            must("save", logger_save(&ours));
+            saves++;
+        }
+    }
+    uint64_t moved = take_over(START_MS + 1000u * (uint64_t)SECONDS + 600000u);
+    must("save", logger_save(&ours));
+    printf("logged      %d seconds of three stations; %" PRIu64 " saves; %" PRIu64 " of the oldest messages trimmed\n", SECONDS, saves + 1, all_trimmed);
+    printf("analyst     all messages read; %" PRIu64 " left pending were claimed by a colleague\n", moved);
+}
+
+/* The second institute loads the file into a store of its own and saves it: the same bytes. */
+static void compare(const char *folder)
+{
+    size_t len;
+    uint64_t saved = 0, loaded;
+    char other[LOGGER_FOLDER_BYTES];
+    snprintf(other, sizeof other, "%s/other", folder);
+    must("second institute", logger_start(&theirs, other, &loaded));
+    must("read the file", logger_read_file(&ours, ours.newest, &len));
+    must("load", wallathi_load(theirs.store, sizeof theirs.store, theirs.state, ours.file, len));
+    must("save again", wallathi_save(theirs.store, sizeof theirs.store, theirs.state, theirs.file, sizeof theirs.file, &saved));
+    if (saved != len || memcmp(ours.file, theirs.file, len) != 0) {
+        fprintf(stderr, "storm: the two institutes' files differ\n");
+        exit(1);
+    }
+    must("second institute's file", logger_save(&theirs));
+    printf("institutes  the second one loaded the file of %zu bytes and saved the same %zu bytes\n", len, len);
+}
+
+/* A byte changed in the file, and one in the store, are refused. */
+static void damage(void)
+{
+    size_t len;
+    uint64_t ms, seq;
+    must("read the file", logger_read_file(&ours, ours.newest, &len));
+    ours.file[len / 2] ^= 1;
+    uint32_t file = wallathi_load(theirs.store, sizeof theirs.store, theirs.state, ours.file, len);
+    theirs.store[100] ^= 1;
+    uint32_t store = wallathi_next(theirs.store, sizeof theirs.store, theirs.state, 0, 0, &ms, &seq);
+    theirs.store[100] ^= 1;
+    printf("damage      a file with one bit changed: %s (%" PRIu32 ")\n", wallathi_refusal_text(file), file);
+    printf("            a store with one bit changed: %s (%" PRIu32 ")\n", wallathi_refusal_text(store), store);
+    if (file != 16 || store != 2) {
+        exit(1);
+    }
+}
+
+/* The samples of the messages that the store holds, by second, and the same as a table: an absent sample is an empty cell. */
+static size_t read_back(const char *path, int *first)
+{
+    FILE *out = fopen(path, "w");
+    if (out == NULL) {
+        stop(path, LOGGER_SYSTEM);
+    }
+    fprintf(out, "second\twest\tmiddle\teast\n");
+    uint64_t ms = 0, seq = 0;
+    size_t count = 0;
+    *first = -1;
+    while (wallathi_next(ours.store, sizeof ours.store, ours.state, ms, seq, &ms, &seq) == 0) {
+        int second = (int)((ms - START_MS) / 1000);
+        *first = *first < 0 ? second : *first;
+        count = (size_t)(second - *first) + 1;
+        fprintf(out, "%d", second);
+        for (int station = 0; station < 3; station++) {
+            int32_t value = 0;
+            uint32_t code = logger_sample(&ours, ms, seq, CHANNELS[station], &value);
+            if (code == 33) {
+                fprintf(out, "\t");
+                continue;
+            }
+            must("field", code);
+            fprintf(out, "\t%" PRId32, value);
+            if (station == 2) {
+                curve[count - 1].there = 1;
+                curve[count - 1].value = value;
+            }
+        }
+        fprintf(out, "\n");
+        seq++;
+    }
+    if (fclose(out) != 0) {
+        stop(path, LOGGER_SYSTEM);
+    }
+    return count;
+}
+
+static void draw(const char *folder)
+{
+    char table[LOGGER_FOLDER_BYTES + 20], picture[LOGGER_FOLDER_BYTES + 20];
+    int first;
+    size_t missing = 0, zeros = 0;
+    snprintf(table, sizeof table, "%s/channels.tsv", folder);
+    snprintf(picture, sizeof picture, "%s/east.svg", folder);
+    size_t count = read_back(table, &first);
+    for (size_t i = 0; i < count; i++) {
+        missing += !curve[i].there;
+        zeros += curve[i].there && curve[i].value == 0;
+    }
+    if (picture_write(picture, "The eastern station in the storm", curve, count) != 0) {
+        stop(picture, LOGGER_SYSTEM);
+    }
+    printf("east        %zu seconds: %zu missing, left open; %zu measured as zero\n", count, missing, zeros);
+    printf("            %s, %s\n", table, picture);
+}
+
+int main(int argc, char **argv)
+{
+    char folder[LOGGER_FOLDER_BYTES];
+    uint64_t loaded;
+    if (argc != 2 || sizeof folder <= strlen(argv[1]) + 10) {
+        fprintf(stderr, "usage: storm FOLDER\n");
+        return 2;
+    }
+    snprintf(folder, sizeof folder, "%s/ours", argv[1]);
+    must("start", logger_start(&ours, folder, &loaded));
+    must("set up", wallathi_set_up(ours.store, sizeof ours.store, ours.state));
+    must("create group", wallathi_create_group(ours.store, sizeof ours.store, ours.state, bytes_of("curves"), 6, 0, 0));
+    log_storm();
+    compare(argv[1]);
+    damage();
+    draw(argv[1]);
+    return 0;
+}

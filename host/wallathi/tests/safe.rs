@@ -1,0 +1,90 @@
+//! The safe crate, as a Rust user meets it.
+
+use wallathi::{Borrowed, Id, Owned, Pending, Refusal, Slip, STATE_BYTES};
+
+fn slip(field: &str, value: &str) -> Slip {
+    Slip::of([(field, value)]).unwrap()
+}
+
+#[test]
+fn an_absent_field_is_none() {
+    let mut store = Owned::new(1).unwrap();
+    let id = store.add(Id::new(5, 0), &Slip::of([("west", ""), ("east", "0")]).unwrap()).unwrap();
+    assert_eq!(store.field(id, b"east").unwrap().as_deref(), Some(&b"0"[..]));
+    assert_eq!(store.field(id, b"west").unwrap().as_deref(), Some(&b""[..]));
+    assert_eq!(store.field(id, b"middle").unwrap(), None);
+    assert_eq!(store.field(Id::new(6, 0), b"east"), Err(Refusal::NotLive));
+}
+
+#[test]
+fn messages_and_deletes() {
+    let mut store = Owned::new(2).unwrap();
+    for ms in 1..=9 {
+        store.add_by_clock(ms, &slip("n", &ms.to_string())).unwrap();
+    }
+    assert_eq!(store.add_by_clock(3, &slip("n", "back")), Ok(Id::new(9, 1)));
+    assert_eq!(store.delete(Id::new(4, 0)), Ok(true));
+    assert_eq!(store.delete(Id::new(4, 0)), Ok(false));
+    assert_eq!(store.trim(6), Ok(3));
+    let ids: Vec<Id> = store.messages(Id::LEAST).map(|message| message.unwrap().0).collect();
+    assert_eq!(ids, [(5, 0), (6, 0), (7, 0), (8, 0), (9, 0), (9, 1)].map(|(ms, seq)| Id::new(ms, seq)));
+    assert_eq!(store.add(Id::new(9, 1), &slip("n", "again")), Err(Refusal::LowId));
+    assert_eq!(store.read(Id::new(9, 1)).unwrap().value(b"n"), Some(&b"back"[..]));
+}
+
+#[test]
+fn groups() {
+    let mut store = Owned::new(1).unwrap();
+    for ms in 1..=3 {
+        store.add_by_clock(ms, &slip("n", "1")).unwrap();
+    }
+    store.create_group(b"curves", Id::LEAST).unwrap();
+    assert_eq!(store.create_group(b"curves", Id::LEAST), Err(Refusal::GroupExists));
+    for _ in 0..3 {
+        store.group_read(b"curves", b"analyst", 10).unwrap().unwrap();
+    }
+    assert_eq!(store.group_read(b"curves", b"analyst", 10), Ok(None));
+    assert_eq!(store.acknowledge(b"curves", Id::new(1, 0)), Ok(true));
+    assert_eq!(store.claim(b"curves", b"relief", 5, Id::new(2, 0), 12), Ok(false));
+    assert_eq!(store.claim(b"curves", b"relief", 5, Id::new(2, 0), 15), Ok(true));
+    store.delete(Id::new(2, 0)).unwrap();
+    let relief: Vec<Pending> = store.pending(b"curves", b"relief").map(Result::unwrap).collect();
+    assert_eq!(relief, [Pending { id: Id::new(2, 0), time: 15, count: 2, lives: false }]);
+    assert_eq!(store.pending(b"curves", b"nobody").count(), 0);
+    assert_eq!(store.drop_consumer(b"curves", b"analyst"), Ok(1));
+    store.destroy_group(b"curves").unwrap();
+    assert_eq!(store.next_pending(b"curves", b"relief", Id::LEAST), Err(Refusal::NoGroup));
+}
+
+#[test]
+fn save_and_load_in_borrowed_bytes() {
+    let mut store = Owned::new(3).unwrap();
+    store.add_by_clock(7, &slip("east", "-3")).unwrap();
+    let file = store.save().unwrap();
+    let mut bytes = vec![255; 2 * 4096 + 5];
+    let mut state = [255; STATE_BYTES];
+    let mut other = Borrowed::from_parts(&mut bytes[..], &mut state);
+    assert_eq!(other.next(Id::LEAST), Err(Refusal::Damaged));
+    assert_eq!(other.load(&file[1..]), Err(Refusal::NoSnapshot));
+    other.load(&file).unwrap();
+    assert_eq!(other.save().unwrap(), file);
+    assert_eq!(other.save_into(&mut [0; 30]), Err(Refusal::ShortOutput));
+    assert_eq!(bytes[2 * 4096..], [255; 5]);
+}
+
+#[test]
+fn refusals_have_numbers_and_words() {
+    assert_eq!(Owned::new(0).unwrap_err().number(), 1);
+    assert_eq!(Refusal::Full.to_string(), "the store is full: a new node is needed and no slot is free (7)");
+}
+
+#[test]
+fn ids_as_text() {
+    assert_eq!("5-9".parse(), Ok(Id::new(5, 9)));
+    assert_eq!("18446744073709551615-18446744073709551615".parse(), Ok(Id::GREATEST));
+    for text in ["", "5", "-", "5-", "-9", "+5-9", "5-9-1", "18446744073709551616-0", " 5-9"] {
+        assert!(text.parse::<Id>().is_err(), "{text}");
+    }
+    assert_eq!(Id::GREATEST.following(), None);
+    assert_eq!(Id::new(1, u64::MAX).following(), Some(Id::new(2, 0)));
+}
