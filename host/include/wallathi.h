@@ -9,8 +9,8 @@
  * 1,000 bytes. It travels as a slip: one byte for the number of pairs, then field, value, field, value, .., each a length of 2 bytes,
  * little-endian, and its bytes. Names of groups and consumers have 1 to 16 bytes.
  *
- * Every command but set up and load first judges the whole store and state. Bytes that no list of commands could have left there are
- * refused as damaged, never followed. A changed byte that makes the bytes of other messages is no damage.
+ * Every command but set up and load first judges the whole store and state. Bytes that are not the image of any messages and groups that
+ * keep the rules are refused as damaged, never followed. Bytes changed into those of other such messages are no damage.
  *
  * Each function answers one of the numbers below. If several refusals apply, the lowest is answered. Out-parameters and output are
  * written only with WALLATHI_OK; what is written to the output starts it, and the bytes after that stay. Unless the answer is
@@ -51,9 +51,9 @@ extern "C" {
 #define WALLATHI_SLOT_BYTES 4096
 #define WALLATHI_MOST_SLOTS 64
 /* An output of this length suffices for every read, and for every value that field writes. */
-#define WALLATHI_LONGEST_SLIP 4841
+#define WALLATHI_LONGEST_SLIP 5353
 /* An output of this length suffices for every save. */
-#define WALLATHI_LONGEST_SNAPSHOT 321540
+#define WALLATHI_LONGEST_SNAPSHOT 321604
 
 /* answered, done, moved: out-parameters and output are written as the function says */
 #define WALLATHI_OK 0

@@ -28,7 +28,7 @@ const SAMPLES: usize = 301;
 const CALLS: usize = 4;
 const SIDES: [(&str, Call); 2] = [("proved", sides::proved), ("plain", sides::plain)];
 /// The room of an output: a snapshot's.
-const ROOM: usize = 321_540;
+const ROOM: usize = 321_604;
 
 /// What is measured of a store: a name and the command. The first is the judgement alone.
 fn commands(fill: &Fill) -> Vec<(&'static str, Command)> {

@@ -2,7 +2,7 @@
  * A logger at a station: readings go into a store that lives in bytes of this program, two workers take them from a group, and a snapshot
  * moves all of it to another store. From the repository:
  *
- *     cc -std=c99 -Ihost/include host/logger.c target/staticlib/libwallathi.a -o logger
+ *     cc -std=c99 -Ihost/include host/readings.c target/staticlib/libwallathi.a -o readings
  */
 #include <stdio.h>
 #include <string.h>
