@@ -1,11 +1,9 @@
-// The record of a radix index of up to 64 keys of 1 to 16 bytes: its validation and listing, and a record made of a table. What each
-// answers is said in specs/.
+// The record of a radix index of up to 64 keys of 1 to 16 bytes: what it holds, and one made of a table. What each function answers is said
+// in specs/.
 
 mod construction;
-mod gather;
 mod judge;
 mod pool;
-mod validation;
 
 pub use construction::build;
 pub use judge::leads;
@@ -14,8 +12,6 @@ pub use pool::label_len;
 pub use pool::link_at;
 pub use pool::wide_link;
 pub use pool::word_at;
-pub use validation::list;
-pub use validation::table_of;
 
 // The record, drawn in specs/Record.antt.
 pub struct Index {

@@ -56,14 +56,3 @@ pub fn label_len(len: &[u8; 256], p: usize) -> usize
     }
     n
 }
-
-// The first byte of a label, 0 where it has none.
-pub fn first_byte<'a>(len: &'a [u8; 256], label: &'a [u8], p: usize) -> usize
-    requires { ⌜ (p < 256) × (length (now label) ≡ 4096) ⌝ }
-    ensures { λ r. ⌜ (r ≡ firstByte (area (16 * p) (lengthOf (now (len .entry)) p) (now (label .entry)))) × (r < 256) ⌝ }
-{
-    if label_len(len, p) == 0 {
-        return 0;
-    }
-    wide(label[16 * p])
-}

@@ -86,8 +86,8 @@ module _ (x : Index) (size : length (x .label) ≡ 4096) where
     where
       none-marked : getD (zeros 256) q 0 ≡ 0
       none-marked =
-          by-order q 256 (getD-replicate 256 q 0 0) (λ h. List·getD-eq-default (zeros 256) 0 (omega (arith, length-replicate {A = ℕ} 256 0)))
-          (λ h. List·getD-eq-default (zeros 256) 0 (omega (arith, length-replicate {A = ℕ} 256 0)))
+          by-order q 256 (getD-replicate 256 q 0 0) (λ h. List·getD-eq-default (zeros 256) 0 {n = q} (omega (arith, length-replicate {A = ℕ} 256 0)))
+          (λ h. List·getD-eq-default (zeros 256) 0 {n = q} (omega (arith, length-replicate {A = ℕ} 256 0)))
 
       go : (b : Bool) → eqb q (x .root) ≡ b → isTidy (nodesOf x) q ≡ true
       go true e = ap (isTidy (nodesOf x)) (eqb-true q (x .root) e) ∙ t
