@@ -1,6 +1,6 @@
 -- Lists of calls of the exported functions on one store and its state (01, Snapshot, last paragraph): each call gets store and state as
 -- the last one left them; its output and out-parameters are its own. `Meets` is the promise of every exported function but
--- wallathi_state_bytes, so a list of calls is `Made` whatever the functions do. Assumes nothing.
+-- wallathi_state_bytes: the contracts in src/ cite it, which is how `Made` is tied to the code. Assumes nothing.
 use mathlib.Core.List.{List, [], _∷_}
 use Prim.Native.Nat.{ℕ}
 use lib.ListN.{length}
