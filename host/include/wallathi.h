@@ -9,8 +9,8 @@
  * 1,000 bytes. It travels as a slip: one byte for the number of pairs, then field, value, field, value, .., each a length of 2 bytes,
  * little-endian, and its bytes. Names of groups and consumers have 1 to 16 bytes.
  *
- * Every command but set up and load first judges the whole store and state. Bytes that no list of commands could have left there are
- * refused as damaged, never followed. A changed byte that makes the bytes of other messages is no damage.
+ * Every command but set up and load first judges the whole store and state. Bytes that are not exactly the image of some messages and
+ * groups are refused as damaged, never followed. A changed byte that makes the image of others is no damage.
  *
  * Each function answers one of the numbers below. If several refusals apply, the lowest is answered. Out-parameters and output are
  * written only with WALLATHI_OK; what is written to the output starts it, and the bytes after that stay. Unless the answer is
@@ -45,7 +45,7 @@ extern "C" {
 
 /* The size of a state; wallathi_state_bytes answers the same. */
 #define WALLATHI_STATE_BYTES 64434
-/* A call needs at most this much stack. */
+/* A call needs at most this much stack; host/stack.c measures it. */
 #define WALLATHI_STACK_BYTES 98304
 /* A store has as many slots as fit its length, 64 at most. */
 #define WALLATHI_SLOT_BYTES 4096
