@@ -158,8 +158,8 @@ pub fn read(record: &Record) -> Option<Entries> {
 /// Whether free places are all zero; each loop is one that the compiler can widen.
 fn is_clear(record: &Record, free: &[u8; POOL_NODES]) -> bool {
     let (mut bytes, mut words, mut values, mut labels) = (0, 0, 0, 0);
-    for place in 0..POOL_NODES {
-        bytes |= (record[LEN + place] | record[KEY + place]) & free[place];
+    for (place, free) in free.iter().enumerate() {
+        bytes |= (record[LEN + place] | record[KEY + place]) & free;
     }
     let wide = |place: usize| i32::from(free[place] as i8);
     for place in 0..POOL_NODES {
@@ -169,8 +169,8 @@ fn is_clear(record: &Record, free: &[u8; POOL_NODES]) -> bool {
     for place in 0..POOL_NODES {
         values |= value_at(record, place) & wide(place) as u32;
     }
-    for place in 0..POOL_NODES {
-        labels |= label_at(record, place) & i128::from(free[place] as i8) as u128;
+    for (place, &free) in free.iter().enumerate() {
+        labels |= label_at(record, place) & i128::from(free as i8) as u128;
     }
     bytes == 0 && words == 0 && values == 0 && labels == 0
 }

@@ -389,6 +389,7 @@ pub fn acknowledge(store: &[u8], state: &mut State, group: &[u8], ms: u64, seq: 
 }
 
 /// Moves a pending entry to a consumer, where it is idle for long enough.
+#[allow(clippy::too_many_arguments)]
 pub fn claim(
     store: &[u8],
     state: &mut State,

@@ -35,7 +35,7 @@ fn commands(fill: &Fill) -> Vec<(&'static str, Command)> {
     let (id, middle) = (fill.new_id(), fill.middle());
     let (group, consumer, now) = (fill.group(), fill.consumer(), id.ms * 2);
     let slip = slip::write(&reading(fill.messages()));
-    let long = slip::write(&vec![(b"trace".to_vec(), vec![b'x'; 1_000]); 3]);
+    let long = slip::write(&vec![(b"trace".to_vec(), vec![b'x'; 1_000]); 4]);
     let mut commands = vec![
         ("judgement", Command::CreateGroup { group: vec![], start: Id::LEAST }),
         ("add", Command::Add { id, slip: slip.clone() }),

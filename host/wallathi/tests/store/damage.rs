@@ -134,7 +134,7 @@ fn any_model(rng: &mut Rng, slots: usize) -> Model {
     for slot in shuffled(rng, count, slots) {
         let mut node = generate::node(rng);
         for entry in &mut node.entries {
-            entry.id.ms = entry.id.ms.checked_add(last.ms + 1).unwrap_or(u64::MAX);
+            entry.id.ms = entry.id.ms.saturating_add(last.ms + 1);
         }
         if !node.keeps_rules() {
             continue;

@@ -1,5 +1,7 @@
 //! Files that are not what save wrote: damaged, cut, hostile.
 
+use std::slice;
+
 use wallathi_model::generate::{Commands, Mood};
 use wallathi_model::groups::{self, Group};
 use wallathi_model::id::Id;
@@ -142,7 +144,7 @@ fn hostile_bodies() {
     let of_long = |numbers: &[u64]| body(&node(numbers, long));
     let mut deleted = node(&[3, 4], |_| short());
     deleted.delete(Id::new(3, 0));
-    let code = |bodies: &[(u8, Vec<u8>)]| load(2, file(&[&[last.clone()], bodies].concat()));
+    let code = |bodies: &[(u8, Vec<u8>)]| load(2, file(&[slice::from_ref(&last), bodies].concat()));
     assert_eq!(code(&[of(&[3, 4]), group(b"a", &[]), group(b"b", &[3, 9])]), 0);
     assert_eq!(code(&[of_long(&[1, 2, 3]), of_long(&[4, 5, 6])]), 0);
     assert_eq!(code(&[of_long(&[1, 2, 3]), of_long(&[4, 5, 6]), of_long(&[7])]), 17);
@@ -172,7 +174,7 @@ fn hostile_bodies() {
     assert_eq!(load(2, file(&[of(&[3]), last.clone()])), 16);
     assert_eq!(load(2, file(&[(1, vec![0; 15])])), 16);
     assert_eq!(load(2, file(&[(1, vec![0; 17])])), 16);
-    assert_eq!(load(0, file(&[last.clone()])), 1);
+    assert_eq!(load(0, file(slice::from_ref(&last))), 1);
     let groups = |count: u8| (1..=count).map(|name| group(&[name], &[])).collect::<Vec<_>>();
     assert_eq!(code(&groups(8)), 0);
     assert_eq!(code(&groups(9)), 16);
