@@ -59,7 +59,7 @@ static const uint8_t *slip(struct input *in, size_t *length)
 {
     static uint8_t made[] = {1, 1, 0, 'a', 1, 0, '0'};
     if (number(in, 1) % 4 == 0) {
-        return slice(in, 2000, length);
+        return slice(in, 300, length);
     }
     made[3] = (uint8_t)('a' + number(in, 1) % 3);
     made[6] = (uint8_t)number(in, 1);
@@ -139,7 +139,7 @@ static uint32_t load(struct input *in)
     static uint8_t file[OUT_BYTES];
     size_t length = (size_t)(now.values[0] % (OUT_BYTES + 1)), changes;
     if (number(in, 1) % 4 == 0) {
-        const uint8_t *any = slice(in, OUT_BYTES, &length);
+        const uint8_t *any = slice(in, 3000, &length);
         return wallathi_load(now.store, sizeof now.store, now.state, any, length);
     }
     memcpy(file, now.out, length);
@@ -189,7 +189,7 @@ static uint64_t next_random(uint64_t *state)
 
 int main(int argc, char **argv)
 {
-    static uint8_t data[4096];
+    static uint8_t data[16384];
     uint64_t random = 88172645463325252u;
     long rounds = argc == 2 ? strtol(argv[1], NULL, 10) : 1000;
     for (long round = 0; round < rounds; round++) {

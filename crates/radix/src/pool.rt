@@ -3,8 +3,6 @@
 ghost use mathlib.Core.Path.{_≡_};
 ghost use Prim.Native.Nat.{_*_, _^_, _<_, _≤_};
 ghost use lib.ListN.{length, getD};
-ghost use Rattle.octets.specs.Place.{area};
-ghost use Rattle.radix.specs.Shape.{firstByte};
 ghost use Rattle.keys.specs.Table.{lengthOf};
 
 pub fn wide(x: u8) -> usize

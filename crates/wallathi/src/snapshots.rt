@@ -9,7 +9,12 @@ ghost use Rattle.wallathi.specs.Run.{call, Meets};
 use crate::telling;
 
 #[no_mangle]
-pub extern "C" fn wallathi_save(store: &[u8], state: &[u8; 64434], out: &mut [u8], len: &mut u64) -> u32
+pub extern "C" fn wallathi_save(
+    store: &[u8],
+    state: &[u8; 64434],
+    out: &mut [u8],
+    len: &mut u64,
+) -> u32
     ensures { λ r. ⌜ Meets (call save (now (len .entry) ∷ []) (now (out .entry))) (lent (now (store .entry)) (now (state .entry))) (seen r (now (len .exit) ∷ []) (now (out .exit))) (lent (now (store .entry)) (now (state .entry))) ⌝ }
 {
     telling::tell_number(stream_save::save(store, state, out), len)

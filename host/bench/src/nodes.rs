@@ -206,6 +206,12 @@ pub fn tasks() -> Vec<Task> {
     let nodes = NODES.map(|(name, make, most_live)| (name, make, Full::new(make, most_live)));
     let mut tasks: Vec<Task> = nodes.iter().map(|(name, _, node)| judgement(name, node)).collect();
     let (_, make, node) = &nodes[0];
-    tasks.extend([addition(*make, node), search(node), deletion(node), reading_one(node), field_of_one(node)]);
+    tasks.extend([
+        addition(*make, node),
+        search(node),
+        deletion(node),
+        reading_one(node),
+        field_of_one(node),
+    ]);
     tasks
 }

@@ -78,7 +78,8 @@ fn sound_and_damaged_records() {
     let mut damaged = 0;
     for turn in 0..TURNS {
         let kind = &KINDS[turn % KINDS.len()];
-        let (index, places, mut record) = record_of(&mut rng, kind, if turn % 2 == 0 { 6 } else { MOST_KEYS });
+        let (index, places, mut record) =
+            record_of(&mut rng, kind, if turn % 2 == 0 { 6 } else { MOST_KEYS });
         for _ in 0..rng.below(3) {
             let bytes = match rng.below(8) {
                 0 => Field::ROOT.at(0),

@@ -156,7 +156,11 @@ fn print_row(name: &str, [proved, plain, tree, sorted]: [f64; 4]) {
 fn report(sides: impl Fn(usize, usize) -> [f64; 4], validation: impl Fn(usize) -> [f64; 2]) {
     for (set, (kind, count)) in SETS.iter().enumerate() {
         let [proved, plain] = validation(set);
-        println!("{:30} {proved:9.0} {plain:11.0} {:7.2}", format!("validation, {count} {kind}"), proved / plain);
+        println!(
+            "{:30} {proved:9.0} {plain:11.0} {:7.2}",
+            format!("validation, {count} {kind}"),
+            proved / plain
+        );
         for (number, (name, _)) in OPERATIONS.iter().enumerate() {
             print_row(&format!("{name}, {count} {kind}"), sides(set, number));
         }
@@ -217,7 +221,8 @@ fn instructions() {
         (calls - prepare) / CALLS as f64
     };
     let sides = |set: usize, operation: usize| {
-        [Proved::NAME, Plain::NAME, Tree::NAME, Sorted::NAME].map(|side| of(set, &operation.to_string(), side))
+        [Proved::NAME, Plain::NAME, Tree::NAME, Sorted::NAME]
+            .map(|side| of(set, &operation.to_string(), side))
     };
     report(sides, |set| [Proved::NAME, Plain::NAME].map(|side| of(set, "validation", side)));
 }
@@ -245,7 +250,12 @@ fn run_one(set: &str, operation: &str, side: &str, only_prepare: bool) {
 fn answers<S: Side>(keys: &[Key], key: &Key) -> (u64, (u64, u64), (u64, u64), [u8; LONGEST_KEY]) {
     let side: S = filled(keys);
     let mut output = [0; LONGEST_KEY];
-    (side.find(key), side.first_at_or_above(key, &mut output), side.last_at_or_below(key, &mut output), output)
+    (
+        side.find(key),
+        side.first_at_or_above(key, &mut output),
+        side.last_at_or_below(key, &mut output),
+        output,
+    )
 }
 
 /// The sides answer alike.

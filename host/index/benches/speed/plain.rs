@@ -100,8 +100,14 @@ impl Walk<'_> {
     /// Every field of the places without a mark is zero: those at the end together, or else one by one.
     fn rest_is_free(&self) -> bool {
         let place = self.marks.iter().position(|mark| !mark).unwrap_or(256);
-        let fields =
-            [(LABEL, 16, RECORD), (VALUE, 4, LABEL), (NEXT, 2, VALUE), (CHILD, 2, NEXT), (KEY, 1, CHILD), (LEN, 1, KEY)];
+        let fields = [
+            (LABEL, 16, RECORD),
+            (VALUE, 4, LABEL),
+            (NEXT, 2, VALUE),
+            (CHILD, 2, NEXT),
+            (KEY, 1, CHILD),
+            (LEN, 1, KEY),
+        ];
         let is_zero = |(at, width, end): (usize, usize, usize)| {
             self.record[at + width * place..end].iter().fold(0, |all, byte| all | byte) == 0
         };
@@ -281,7 +287,8 @@ impl Rows {
     }
 
     fn of(record: &Record, first: usize) -> Rows {
-        let mut rows = Rows { count: 0, rows: [Row { key: [0; LONGEST_KEY], length: 0, value: 0 }; MOST_KEYS] };
+        let mut rows =
+            Rows { count: 0, rows: [Row { key: [0; LONGEST_KEY], length: 0, value: 0 }; MOST_KEYS] };
         rows.gather(record, first, &mut [0; LONGEST_KEY], 0);
         rows
     }
