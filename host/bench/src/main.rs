@@ -7,7 +7,7 @@ use std::hint::black_box;
 use std::time::{Duration, Instant};
 
 use bench::{plain, proved};
-use measure::median;
+use measure::{grouped, median, ratio, Table};
 use wallathi_model::rng::Rng;
 
 mod groups;
@@ -164,24 +164,14 @@ fn timed(run: &mut dyn FnMut(u64), times: u64) -> f64 {
     start.elapsed().as_nanos() as f64 / times as f64
 }
 
-fn print_head(figure: &str) {
-    print!("{figure:34} {:>10} {:>12} {:>8}", "proved", "plain Rust", "ratio");
-}
-
-fn print_row(name: &str, proved: f64, plain: f64) {
-    print!("{name:34} {proved:10.0} {plain:12.0} {:8.2}", proved / plain);
-}
-
-/// Bytes in nanoseconds, as millions of bytes a second.
-fn print_speed(bytes: usize, proved: f64, plain: f64) {
-    let [proved, plain] = [proved, plain].map(|time| bytes as f64 / time * 1_000.0);
-    print!("{proved:10.0} {plain:10.0}");
+fn row(name: &str, proved: f64, plain: f64) -> [String; 4] {
+    [name.to_string(), grouped(proved), grouped(plain), ratio(proved, plain)]
 }
 
 /// Samples of the two alternate, so that what disturbs the machine disturbs both.
 fn time() {
-    print_head("median time of a call, ns");
-    println!("  MB a second: proved, plain");
+    let head = ["", "proved, ns", "plain Rust, ns", "ratio", "MB a second: proved", "plain Rust"];
+    let mut table = Table::new("parts_times", &head);
     for task in &mut tasks() {
         let once = timed(&mut task.plain, 100);
         let times = (SAMPLE.as_nanos() as f64 / once).max(1.0) as u64;
@@ -190,12 +180,11 @@ fn time() {
             proved.push(timed(&mut task.proved, times));
             plain.push(timed(&mut task.plain, times));
         }
-        let (proved, plain) = (median(&mut proved), median(&mut plain));
-        print_row(&task.name, proved, plain);
-        if let Some(bytes) = task.bytes {
-            print_speed(bytes, proved, plain);
-        }
-        println!();
+        let (proved, plain) = (median(proved), median(plain));
+        // Bytes in nanoseconds, as millions of bytes a second.
+        let speed =
+            |time: f64| task.bytes.map_or(String::new(), |bytes| grouped(bytes as f64 / time * 1_000.0));
+        table.row(&[&row(&task.name, proved, plain)[..], &[speed(proved), speed(plain)]].concat());
     }
 }
 
@@ -206,19 +195,16 @@ fn instructions_of(task: usize, side: &str, times: u64) -> f64 {
 
 /// The difference of two runs is what the calls alone take.
 fn instructions() {
-    print_head("instructions of a call");
-    println!();
+    let mut table = Table::new("parts_instructions", &["", "proved", "plain Rust", "ratio"]);
     for (number, task) in tasks().iter().enumerate() {
         let [proved, plain] = ["proved", "plain"]
             .map(|side| (instructions_of(number, side, 110) - instructions_of(number, side, 10)) / 100.0);
-        print_row(&task.name, proved, plain);
-        println!();
+        table.row(&row(&task.name, proved, plain));
     }
 }
 
 fn main() {
-    let words: Vec<String> = std::env::args().skip(1).collect();
-    match words.iter().map(String::as_str).collect::<Vec<_>>()[..] {
+    match measure::words().iter().map(String::as_str).collect::<Vec<_>>()[..] {
         [] => time(),
         ["instructions"] => instructions(),
         ["run", task, side, times] => {

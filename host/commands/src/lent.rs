@@ -1,5 +1,6 @@
 //! A lent store and state, and what the model says of them.
 
+use wallathi_model::bytes::checksum;
 use wallathi_model::id::Id;
 use wallathi_model::image;
 use wallathi_model::index::{record, Index};
@@ -259,25 +260,5 @@ fn number_of(answer: &Answer) -> u64 {
         Answer::Pending { id, time, count, .. } => mix(mix(mix_id(102, id), *time), u64::from(*count)),
         Answer::Absent => 103,
         _ => 104,
-    }
-}
-
-/// Adler-32.
-fn checksum(bytes: &[u8]) -> u32 {
-    let (mut a, mut b) = (1u32, 0u32);
-    for &byte in bytes {
-        a = (a + u32::from(byte)) % 65_521;
-        b = (b + a) % 65_521;
-    }
-    b * 65_536 + a
-}
-
-#[cfg(test)]
-mod tests {
-    use super::*;
-
-    #[test]
-    fn checksums_are_those_of_rfc_1950() {
-        assert_eq!(checksum(b"Wikipedia"), 0x11E6_0398);
     }
 }

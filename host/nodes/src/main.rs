@@ -13,6 +13,7 @@
 
 use std::io::Write;
 
+use wallathi_model::bytes::checksum;
 use wallathi_model::generate;
 use wallathi_model::id::Id;
 use wallathi_model::message::value_of;
@@ -190,16 +191,6 @@ fn field(node: &Node, id: Id, name: &[u8]) -> String {
         Some(value) => format!("length {}\nvalue {}", value.len(), checksum(value)),
         None => "absent".to_string(),
     }
-}
-
-/// Adler-32.
-fn checksum(bytes: &[u8]) -> u32 {
-    let (mut a, mut b) = (1u32, 0u32);
-    for &byte in bytes {
-        a = (a + u32::from(byte)) % 65_521;
-        b = (b + a) % 65_521;
-    }
-    b * 65_536 + a
 }
 
 /// Every byte of the slot, changed in three ways.
@@ -439,10 +430,5 @@ mod tests {
             let count = lines.iter().filter(|line| line.starts_with(start)).count();
             assert!(count >= least, "{start}: {count}");
         }
-    }
-
-    #[test]
-    fn checksums_are_those_of_rfc_1950() {
-        assert_eq!(checksum(b"Wikipedia"), 0x11E6_0398);
     }
 }

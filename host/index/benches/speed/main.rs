@@ -7,8 +7,9 @@ mod plain;
 mod sides;
 
 use std::hint::black_box;
-use std::process::Command;
 use std::time::Instant;
+
+use measure::{grouped, median, ratio, Table};
 
 use sides::{Plain, Proved, Side, Sorted, Tree};
 use wallathi_index::LONGEST_KEY;
@@ -138,31 +139,19 @@ fn validate<S: Side>(validate: fn(&S), keys: &[Key], calls: usize, only_prepare:
     start.elapsed().as_nanos() as f64 / calls as f64
 }
 
-fn median(mut samples: Vec<f64>) -> f64 {
-    samples.sort_by(f64::total_cmp);
-    samples[samples.len() / 2]
-}
-
-fn print_head(figure: &str) {
-    let names = [Proved::NAME, Plain::NAME, Tree::NAME, Sorted::NAME];
-    println!("{figure:30} {:>9} {:>11} {:>7} {:>9} {:>13}", names[0], names[1], "ratio", names[2], names[3]);
-}
-
-fn print_row(name: &str, [proved, plain, tree, sorted]: [f64; 4]) {
-    println!("{name:30} {proved:9.0} {plain:11.0} {:7.2} {tree:9.0} {sorted:13.0}", proved / plain);
-}
-
 /// A figure of each side for each operation on each set of keys, and of the validation.
-fn report(sides: impl Fn(usize, usize) -> [f64; 4], validation: impl Fn(usize) -> [f64; 2]) {
+fn report(name: &str, sides: impl Fn(usize, usize) -> [f64; 4], validation: impl Fn(usize) -> [f64; 2]) {
+    let head = ["", Proved::NAME, Plain::NAME, "ratio", Tree::NAME, Sorted::NAME];
+    let mut table = Table::new(name, &head);
     for (set, (kind, count)) in SETS.iter().enumerate() {
         let [proved, plain] = validation(set);
-        println!(
-            "{:30} {proved:9.0} {plain:11.0} {:7.2}",
-            format!("validation, {count} {kind}"),
-            proved / plain
-        );
+        let compared = |proved: f64, plain: f64| vec![grouped(proved), grouped(plain), ratio(proved, plain)];
+        let name = vec![format!("validation, {count} {kind}")];
+        table.row(&[name, compared(proved, plain), vec![String::new(); 2]].concat());
         for (number, (name, _)) in OPERATIONS.iter().enumerate() {
-            print_row(&format!("{name}, {count} {kind}"), sides(set, number));
+            let [proved, plain, tree, sorted] = sides(set, number);
+            let name = vec![format!("{name}, {count} {kind}")];
+            table.row(&[name, compared(proved, plain), vec![grouped(tree), grouped(sorted)]].concat());
         }
     }
 }
@@ -173,7 +162,6 @@ fn set_keys(set: usize) -> Vec<Key> {
 
 /// Samples of the sides alternate, so that what disturbs the machine disturbs all.
 fn time() {
-    print_head("median time of a call, ns");
     let sides = |set: usize, operation: usize| {
         let (keys, operation) = (set_keys(set), OPERATIONS[operation].1);
         let mut samples = [vec![], vec![], vec![], vec![]];
@@ -194,37 +182,23 @@ fn time() {
         }
         samples.map(median)
     };
-    report(sides, validation);
-}
-
-/// How many instructions this program executes for the calls of a side, or for their preparation alone.
-fn collected(words: &[&str]) -> f64 {
-    let program = std::env::current_exe().expect("the program's own path");
-    let run = Command::new("valgrind")
-        .args(["--tool=callgrind", "--callgrind-out-file=/dev/null"])
-        .arg(program)
-        .arg("run")
-        .args(words)
-        .output()
-        .expect("valgrind runs");
-    let told = String::from_utf8_lossy(&run.stderr).into_owned();
-    let count =
-        told.lines().find_map(|line| line.split("Collected :").nth(1)).unwrap_or_else(|| panic!("{told}"));
-    count.trim().parse().expect("a number")
+    report("index_times_ns", sides, validation);
 }
 
 fn instructions() {
-    print_head("instructions of a call");
     let of = |set: usize, operation: &str, side: &str| {
         let set = set.to_string();
-        let [calls, prepare] = ["calls", "prepare"].map(|part| collected(&[&set, operation, side, part]));
+        let [calls, prepare] =
+            ["calls", "prepare"].map(|part| measure::instructions_of(&["run", &set, operation, side, part]));
         (calls - prepare) / CALLS as f64
     };
     let sides = |set: usize, operation: usize| {
         [Proved::NAME, Plain::NAME, Tree::NAME, Sorted::NAME]
             .map(|side| of(set, &operation.to_string(), side))
     };
-    report(sides, |set| [Proved::NAME, Plain::NAME].map(|side| of(set, "validation", side)));
+    report("index_instructions", sides, |set| {
+        [Proved::NAME, Plain::NAME].map(|side| of(set, "validation", side))
+    });
 }
 
 /// One side's calls, or their preparation, to be counted.
@@ -272,9 +246,7 @@ fn compare() {
 }
 
 fn main() {
-    // `cargo bench` adds a word of its own.
-    let words: Vec<String> = std::env::args().skip(1).filter(|word| word != "--bench").collect();
-    match words.iter().map(String::as_str).collect::<Vec<_>>()[..] {
+    match measure::words().iter().map(String::as_str).collect::<Vec<_>>()[..] {
         [] => {
             compare();
             time();

@@ -16,7 +16,7 @@ use std::process;
 use std::time::Instant;
 
 use lent::Lent;
-use measure::median;
+use measure::{grouped, median, ratio, Table};
 use sides::{Call, Values};
 use stores::{reading, Fill, FILLS, LENGTH};
 use wallathi_model::id::Id;
@@ -109,35 +109,22 @@ impl Bench {
     }
 }
 
-/// A figure with commas between thousands.
-fn grouped(figure: f64) -> String {
-    let digits = format!("{:.0}", figure.max(0.0));
-    let places = digits.char_indices();
-    places.fold(String::new(), |mut text, (place, digit)| {
-        if place > 0 && (digits.len() - place) % 3 == 0 {
-            text.push(',');
-        }
-        text.push(digit);
-        text
-    })
-}
-
 /// A table of each command on each store. `figures` gives a command's two figures, proved and plain, and `told` what a row says of
 /// them beside those of the judgement.
 fn report(
-    head: &str,
+    name: &str,
+    head: &[&str],
     figures: impl Fn(usize, usize) -> [f64; 2],
-    told: impl Fn([f64; 2], [f64; 2]) -> String,
+    told: impl Fn([f64; 2], [f64; 2]) -> Vec<String>,
 ) {
-    println!("{head}");
-    println!("|{}", "---|".repeat(head.matches('|').count() - 1));
+    let mut table = Table::new(name, &[&[""], head].concat());
     for (store, fill) in FILLS.iter().enumerate() {
         let judgement = figures(store, 0);
         for (number, (name, _)) in commands(fill).iter().enumerate() {
             let both = if number == 0 { judgement } else { figures(store, number) };
             // Load judges no store.
             let beyond = if *name == "load" { [0.0; 2] } else { judgement };
-            println!("| {name}, {} | {} |", fill.name, told(both, beyond));
+            table.row(&[vec![format!("{name}, {}", fill.name)], told(both, beyond)].concat());
         }
     }
 }
@@ -153,14 +140,15 @@ fn time() {
                 samples.push(bench.time(call, &command));
             }
         }
-        samples.map(|mut samples| median(&mut samples))
+        samples.map(median)
     };
     let bytes = (LENGTH + wallathi::raw::STATE_BYTES) as f64;
     let told = |[proved, plain]: [f64; 2], [judged, _]: [f64; 2]| {
         let speed = if judged == proved { format!("{:.0}", bytes / proved * 1_000.0) } else { String::new() };
-        format!("{:.1} | {:.1} | {:.2} | {speed}", proved / 1_000.0, plain / 1_000.0, proved / plain)
+        let [us, plain_us] = [proved, plain].map(|time| format!("{:.1}", time / 1_000.0));
+        vec![us, plain_us, ratio(proved, plain), speed]
     };
-    report("| | proved, µs | plain Rust, µs | ratio | MB judged a second |", figures, told);
+    report("store_times", &["proved, µs", "plain Rust, µs", "ratio", "MB judged a second"], figures, told);
 }
 
 fn instructions() {
@@ -178,10 +166,10 @@ fn instructions() {
         } else {
             [grouped(proved - judged), grouped(plain - plain_judged)]
         };
-        let ratio = proved / plain;
-        format!("{} | {} | {ratio:.2} | {} | {}", grouped(proved), grouped(plain), own[0], own[1])
+        [vec![grouped(proved), grouped(plain), ratio(proved, plain)], own.to_vec()].concat()
     };
-    report("| | proved | plain Rust | ratio | beyond the judgement: proved | plain Rust |", figures, told);
+    let head = ["proved", "plain Rust", "ratio", "beyond the judgement: proved", "plain Rust"];
+    report("store_instructions", &head, figures, told);
 }
 
 /// So many calls of a side, to be counted; the copies are made in any case.
@@ -212,9 +200,7 @@ fn compare() {
 }
 
 fn main() {
-    // `cargo bench` adds a word of its own.
-    let words: Vec<String> = std::env::args().skip(1).filter(|word| word != "--bench").collect();
-    match words.iter().map(String::as_str).collect::<Vec<_>>()[..] {
+    match measure::words().iter().map(String::as_str).collect::<Vec<_>>()[..] {
         [] => {
             compare();
             time();
