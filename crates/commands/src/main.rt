@@ -9,15 +9,12 @@
 // U drop consumer. Before a command the step is added to the byte at the place, modulo 256, and taken back after it. Where times are given,
 // a query is asked once for each of so many places, the stride between them.
 
+use commanding::Request;
 use libc::STDIN_FILENO;
-use running::Request;
 use running::STATE_PLACE;
 use state::STATE_BYTES;
 
-mod asking;
-mod changing;
 mod running;
-mod showing;
 
 ghost use mathlib.Core.Path.{_≡_};
 ghost use Prim.Native.Nat.{_≤_};

@@ -1,10 +1,7 @@
 // A command on a store and a state of which a byte may be changed before it, and back after it.
 
-use crate::asking;
-use crate::changing;
-use crate::showing;
-use crate::showing::Accepted;
-use id::Id;
+use commanding::Accepted;
+use commanding::Request;
 use stream::Reply;
 ghost use mathlib.Core.Path.{_≡_};
 ghost use lib.ListN.{length};
@@ -12,18 +9,6 @@ ghost use Rattle.state.specs.Layout.{stateSize};
 
 // The place of the state's first byte; the store's bytes have the places below.
 pub const STATE_PLACE: u64 = 300000;
-
-// What main.rt says of it.
-pub struct Request {
-    pub letter: u8,
-    pub id: Id,
-    pub time: u64,
-    pub number: u64,
-    pub place: u64,
-    pub step: u64,
-    pub times: u64,
-    pub stride: u64,
-}
 
 // The step added to the byte at a place, if there is one.
 fn shift_at(d: &mut [u8], place: u64, step: u64) {
@@ -58,15 +43,15 @@ fn reply_to(
 {
     let letter = q.letter;
     match letter {
-        b'S' | b'A' | b'C' | b'D' | b'T' => changing::change(store, state, q, bytes),
-        b'G' | b'H' | b'E' | b'K' | b'M' | b'U' => changing::change_group(
+        b'S' | b'A' | b'C' | b'D' | b'T' => commanding::change(store, state, q, bytes),
+        b'G' | b'H' | b'E' | b'K' | b'M' | b'U' => commanding::change_group(
             store,
             state,
             q,
             bytes,
             name,
         ),
-        _ => asking::ask(store, state, q, bytes, name, out),
+        _ => commanding::ask(store, state, q, bytes, name, out),
     }
 }
 
@@ -78,10 +63,10 @@ fn run_once(store: &mut [u8], state: &mut [u8], q: Request, bytes: &[u8], name: 
     shift(store, state, q.place, q.step);
     let reply = reply_to(store, state, q, bytes, name, &mut out);
     shift_back(store, state, q.place, q.step);
-    showing::reply(reply);
+    commanding::show_reply(reply);
     let letter = q.letter;
     match letter {
-        b'R' | b'F' => showing::output(reply, &out),
+        b'R' | b'F' => commanding::show_output(reply, &out),
         _ => {}
     }
 }
@@ -100,9 +85,9 @@ fn ask_at(
 {
     let mut out = [238u8; 8192];
     shift(store, state, place, q.step);
-    let reply = asking::ask(store, state, q, bytes, name, &mut out);
+    let reply = commanding::ask(store, state, q, bytes, name, &mut out);
     shift_back(store, state, place, q.step);
-    showing::with_reply(before, place, reply)
+    commanding::with_reply(before, place, reply)
 }
 
 // A query for each place; it changes nothing, so every place is tried on the same bytes.
@@ -137,5 +122,5 @@ pub fn run(store: &mut [u8], state: &mut [u8], q: Request, bytes: &[u8], name: &
     requires { ⌜ length (now state) ≡ stateSize ⌝ }
 {
     respond(store, state, q, bytes, name);
-    showing::lent(store, state);
+    commanding::show_lent(store, state);
 }

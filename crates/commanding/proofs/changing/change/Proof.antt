@@ -1,6 +1,6 @@
 -- `change` is safe: what it calls keeps the lengths. Assumes nothing.
-use Rattle.commands.proofs.changing.change.Statement.{statement}
-use Rattle.commands.proofs.changing.change.Tie as tie
+use Rattle.commanding.proofs.changing.change.Statement.{statement}
+use Rattle.commanding.proofs.changing.change.Tie as tie
 
 pub change-spec : {M : Type 1} → statement M
 change-spec =

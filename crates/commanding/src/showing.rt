@@ -25,7 +25,7 @@ fn length_written(reply: Reply) -> usize {
 }
 
 // The output: what was written, and what follows it.
-pub fn output(reply: Reply, out: &[u8]) {
+pub fn show_output(reply: Reply, out: &[u8]) {
     let n = length_written(reply);
     if out.len() < n {
         return;
@@ -43,7 +43,7 @@ fn entry(i: Id, time: u64, count: u64, lives: bool) {
     }
 }
 
-pub fn reply(reply: Reply) {
+pub fn show_reply(reply: Reply) {
     match reply {
         Reply::Refused(n) => show::count(b"refused", n as u64),
         Reply::Done => show::text(b"done\n"),
@@ -146,7 +146,7 @@ fn index(state: &[u8])
 }
 
 // The slots, the bytes past them, and the parts of the state.
-pub fn lent(store: &[u8], state: &[u8])
+pub fn show_lent(store: &[u8], state: &[u8])
     requires { ⌜ length (now state) ≡ stateSize ⌝ }
 {
     let used = image::slots_in(store.len()) * SLOT_BYTES;

@@ -1,6 +1,6 @@
 // The commands that change messages or groups.
 
-use crate::running::Request;
+use crate::Request;
 use stream::Reply;
 ghost use mathlib.Core.Path.{_≡_};
 ghost use lib.ListN.{length};

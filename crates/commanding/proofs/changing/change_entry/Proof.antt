@@ -1,6 +1,6 @@
 -- `change_entry` is safe: what it calls keeps the lengths. Assumes nothing.
-use Rattle.commands.proofs.changing.change_entry.Statement.{statement}
-use Rattle.commands.proofs.changing.change_entry.Tie as tie
+use Rattle.commanding.proofs.changing.change_entry.Statement.{statement}
+use Rattle.commanding.proofs.changing.change_entry.Tie as tie
 
 pub change-entry-spec : {M : Type 1} → statement M
 change-entry-spec =

@@ -1,6 +1,6 @@
 -- `ask` is safe: what it calls keeps the lengths. Assumes nothing.
-use Rattle.commands.proofs.asking.ask.Statement.{statement}
-use Rattle.commands.proofs.asking.ask.Tie as tie
+use Rattle.commanding.proofs.asking.ask.Statement.{statement}
+use Rattle.commanding.proofs.asking.ask.Tie as tie
 
 pub ask-spec : {M : Type 1} → statement M
 ask-spec =

@@ -1,6 +1,6 @@
 -- `change_group` is safe: what it calls keeps the lengths. Assumes nothing.
-use Rattle.commands.proofs.changing.change_group.Statement.{statement}
-use Rattle.commands.proofs.changing.change_group.Tie as tie
+use Rattle.commanding.proofs.changing.change_group.Statement.{statement}
+use Rattle.commanding.proofs.changing.change_group.Tie as tie
 
 pub change-group-spec : {M : Type 1} → statement M
 change-group-spec =

@@ -1,6 +1,6 @@
 // The commands that change nothing.
 
-use crate::running::Request;
+use crate::Request;
 use id::Id;
 use stream::Reply;
 ghost use mathlib.Core.Path.{_≡_};

@@ -4,8 +4,8 @@ use Prim.Native.Nat.{_-_, _≤_}
 use native.Mathlib.Omega.{arith}
 use borrow.Author.Needs.{needs}
 use lib.ListN.{length}
-use Rattle.commands.proofs.showing.rows.Statement.{statement}
-use Rattle.commands.proofs.showing.rows.Tie as tie
+use Rattle.commanding.proofs.showing.rows.Statement.{statement}
+use Rattle.commanding.proofs.showing.rows.Tie as tie
 
 abbrev Inv-loop : tie.InvT-loop
 Inv-loop n len val key d₀ i₀ t10 d i = (i ≤ n) × (n ≤ 64) × (length key ≡ 1024) × (length d ≡ 1344)
