@@ -7,7 +7,7 @@ use std::hint::black_box;
 use std::time::{Duration, Instant};
 
 use bench::{plain, proved};
-use measure::{grouped, median, ratio, Table};
+use measure::{grouped, median, ratio, Benchmark, Table};
 use wallathi_model::rng::Rng;
 
 mod groups;
@@ -203,21 +203,17 @@ fn instructions() {
     }
 }
 
-fn main() {
-    match measure::words().iter().map(String::as_str).collect::<Vec<_>>()[..] {
-        [] => time(),
-        ["instructions"] => instructions(),
-        ["run", task, side, times] => {
-            let task = &mut tasks()[task.parse::<usize>().expect("a task's number")];
-            let times = times.parse().expect("a number");
-            match side {
-                "proved" => (task.proved)(times),
-                _ => (task.plain)(times),
-            }
-        }
-        _ => {
-            eprintln!("usage: bench [instructions]");
-            std::process::exit(2);
-        }
+fn run_one(words: &[&str]) {
+    let &[task, side, times] = words else { panic!("three words") };
+    let task = &mut tasks()[task.parse::<usize>().expect("a task's number")];
+    let times = times.parse().expect("a number");
+    match side {
+        "proved" => (task.proved)(times),
+        _ => (task.plain)(times),
     }
+}
+
+fn main() {
+    // The sides are compared by the tests.
+    Benchmark { compare: || (), time, instructions, run: run_one }.start();
 }

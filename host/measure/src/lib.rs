@@ -1,12 +1,38 @@
 //! What the benchmarks share: the words they are started with, medians of samples, counts of executed instructions, and tables.
 
+use std::env;
 use std::fs::{self, File};
 use std::io::Write;
-use std::process::Command;
+use std::process::{self, Command};
 
-/// The words that the program was started with; `cargo bench` adds one of its own.
-pub fn words() -> Vec<String> {
-    std::env::args().skip(1).filter(|word| word != "--bench").collect()
+/// A benchmark of several sides.
+pub struct Benchmark {
+    /// Do the sides answer alike?
+    pub compare: fn(),
+    pub time: fn(),
+    pub instructions: fn(),
+    /// One run of a side, to be counted: which one, the words say.
+    pub run: fn(&[&str]),
+}
+
+impl Benchmark {
+    /// Does what the words say that the program was started with; `cargo bench` adds one of its own.
+    pub fn start(&self) {
+        let words: Vec<String> = env::args().skip(1).filter(|word| word != "--bench").collect();
+        match words.iter().map(String::as_str).collect::<Vec<_>>()[..] {
+            [] => {
+                (self.compare)();
+                (self.time)();
+            }
+            ["compare"] => (self.compare)(),
+            ["instructions"] => (self.instructions)(),
+            ["run", ref words @ ..] => (self.run)(words),
+            _ => {
+                eprintln!("words: none for times, instructions, compare");
+                process::exit(2);
+            }
+        }
+    }
 }
 
 /// The middle one of an odd number of samples.
@@ -17,7 +43,7 @@ pub fn median(mut samples: Vec<f64>) -> f64 {
 
 /// How many instructions this program executes when it is started with these words, counted by valgrind.
 pub fn instructions_of(words: &[&str]) -> f64 {
-    let program = std::env::current_exe().expect("the program's own path");
+    let program = env::current_exe().expect("the program's own path");
     let run = Command::new("valgrind")
         .args(["--tool=callgrind", "--callgrind-out-file=/dev/null"])
         .arg(program)

@@ -9,7 +9,7 @@ mod sides;
 use std::hint::black_box;
 use std::time::Instant;
 
-use measure::{grouped, median, ratio, Table};
+use measure::{grouped, median, ratio, Benchmark, Table};
 
 use sides::{Plain, Proved, Side, Sorted, Tree};
 use wallathi_index::LONGEST_KEY;
@@ -202,7 +202,9 @@ fn instructions() {
 }
 
 /// One side's calls, or their preparation, to be counted.
-fn run_one(set: &str, operation: &str, side: &str, only_prepare: bool) {
+fn run_one(words: &[&str]) {
+    let &[set, operation, side, part] = words else { panic!("four words") };
+    let only_prepare = part == "prepare";
     let keys = set_keys(set.parse().expect("a set's number"));
     if operation == "validation" {
         match side {
@@ -246,17 +248,5 @@ fn compare() {
 }
 
 fn main() {
-    match measure::words().iter().map(String::as_str).collect::<Vec<_>>()[..] {
-        [] => {
-            compare();
-            time();
-        }
-        ["compare"] => compare(),
-        ["instructions"] => instructions(),
-        ["run", set, operation, side, part] => run_one(set, operation, side, part == "prepare"),
-        _ => {
-            eprintln!("usage: cargo bench [-- instructions | -- compare]");
-            std::process::exit(2);
-        }
-    }
+    Benchmark { compare, time, instructions, run: run_one }.start();
 }

@@ -12,11 +12,10 @@ mod sides;
 mod stores;
 
 use std::hint::black_box;
-use std::process;
 use std::time::Instant;
 
 use lent::Lent;
-use measure::{grouped, median, ratio, Table};
+use measure::{grouped, median, ratio, Benchmark, Table};
 use sides::{Call, Values};
 use stores::{reading, Fill, FILLS, LENGTH};
 use wallathi_model::id::Id;
@@ -173,7 +172,9 @@ fn instructions() {
 }
 
 /// So many calls of a side, to be counted; the copies are made in any case.
-fn run_one(store: usize, number: usize, side: usize, calls: usize) {
+fn run_one(words: &[&str]) {
+    let numbers: Vec<usize> = words.iter().map(|word| word.parse().expect("a number")).collect();
+    let [store, number, side, calls] = numbers[..] else { panic!("four numbers") };
     let mut bench = Bench::new(&FILLS[store]);
     let (_, command) = commands(&FILLS[store]).swap_remove(number);
     for call in 0..CALLS {
@@ -200,20 +201,5 @@ fn compare() {
 }
 
 fn main() {
-    match measure::words().iter().map(String::as_str).collect::<Vec<_>>()[..] {
-        [] => {
-            compare();
-            time();
-        }
-        ["compare"] => compare(),
-        ["instructions"] => instructions(),
-        ["run", store, number, side, calls] => {
-            let number_of = |word: &str| word.parse().expect("a number");
-            run_one(number_of(store), number_of(number), number_of(side), number_of(calls));
-        }
-        _ => {
-            eprintln!("usage: cargo bench [-- instructions | -- compare]");
-            process::exit(2);
-        }
-    }
+    Benchmark { compare, time, instructions, run: run_one }.start();
 }
