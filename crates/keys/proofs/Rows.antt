@@ -4,11 +4,12 @@ use mathlib.Core.Path.{_≡_, refl, sym, ap, ap₂, _∙_}
 use mathlib.Core.List.{List, [], _∷_, _++_, append-assoc}
 use Prim.Native.Nat.{ℕ, zero, suc, _+_, _*_, _-_, _≤_, _<_, min}
 use native.Mathlib.Nat.{add-zero, zero-add}
+use native.Mathlib.Numerals.{add-one}
 use native.Mathlib.Omega.{arith}
 use lib.ListN.{length, getD, set, take, drop}
 use lib.Seq.{getD-set-same, getD-set-other}
 use Rattle.octets.specs.Place.{area, put}
-use Rattle.octets.proofs.Laws.{area-before, area-put-at}
+use Rattle.octets.proofs.Laws.{area-before, area-put-part, area-all, area-area, length-area}
 use Rattle.keys.specs.Entries.{Entry, entry}
 use Rattle.octets.specs.Compare.{comesBefore}
 use Rattle.keys.specs.Rank.{rank}
@@ -33,19 +34,20 @@ rows-last t i (suc n) =
     let e : i + 1 + n ≡ i + suc n = omega arith in
     ap (λ (es : List Entry). rowAt t i ∷ es) (rows-last t (i + 1) n ∙ ap (λ (j : ℕ). rowsFrom t (i + 1) n ++ (rowAt t j ∷ [])) e)
 
--- a row written after the others
-module _ (len val key : List ℕ) (n d v : ℕ) (bs : List ℕ) (a : length len ≡ 64) (b : length val ≡ 64) (c : length key ≡ 1024) (m : n < 64) (e : length bs ≡ d) (h : d ≤ 16) where
+-- a row written after the others; its bytes may go on after the key
+module _ (len val key : List ℕ) (n d v : ℕ) (bs : List ℕ) (a : length len ≡ 64) (b : length val ≡ 64) (c : length key ≡ 1024) (m : n < 64) (h : length bs ≤ 16) where
   new : Columns
   new = columns (set len n d) (set val n v) (put key (16 * n) bs)
 
-  new-row : rowAt new n ≡ entry bs v
+  new-row : min d 16 ≤ length bs → rowAt new n ≡ entry (area 0 (min d 16) bs) v
   unfolding new
-  new-row =
+  new-row k =
       let i : n < length len = omega arith in
       let j : n < length val = omega arith in
-      let k : min d 16 ≡ d = omega arith in
       ap₂ entry
-      (ap (λ (w : ℕ). area (16 * n) (min w 16) (put key (16 * n) bs)) (getD-set-same len n d 0 i) ∙ ap (λ (w : ℕ). area (16 * n) w (put key (16 * n) bs)) k ∙ area-put-at key (16 * n) bs (omega arith) d e)
+      (ap (λ (w : ℕ). area (16 * n) (min w 16) (put key (16 * n) bs)) (getD-set-same len n d 0 i)
+      ∙ ap (λ (w : ℕ). area w (min d 16) (put key (16 * n) bs)) (sym (add-zero (16 * n)))
+      ∙ area-put-part key (16 * n) bs (omega arith) 0 (min d 16) (omega arith))
       (getD-set-same val n v 0 j)
 
   old-row : (j : ℕ) → j < n → rowAt new j ≡ rowAt (columns len val key) j
@@ -56,12 +58,20 @@ module _ (len val key : List ℕ) (n d v : ℕ) (bs : List ℕ) (a : length len 
       (ap (λ (w : ℕ). area (16 * j) (min w 16) (put key (16 * n) bs)) (getD-set-other len n j d 0 z) ∙ area-before key (16 * n) bs (omega arith) (16 * j) (lengthOf len j) (omega arith))
       (getD-set-other val n j v 0 z)
 
-  pub row-added : rowsFrom (columns (set len n d) (set val n v) (put key (16 * n) bs)) 0 (suc n) ≡ rowsFrom (columns len val key) 0 n ++ (entry bs v ∷ [])
+  pub row-put : min d 16 ≤ length bs
+      → rowsFrom (columns (set len n d) (set val n v) (put key (16 * n) bs)) 0 (suc n) ≡ rowsFrom (columns len val key) 0 n ++ (entry (area 0 (min d 16) bs) v ∷ [])
   unfolding new
-  row-added =
+  row-put k =
       rows-last new 0 n
       ∙ ap₂ (λ (es : List Entry) (r : Entry). es ++ (r ∷ [])) (rows-same new (columns len val key) 0 n (λ j k. old-row j (omega arith)))
-      (ap (rowAt new) (zero-add n) ∙ new-row)
+      (ap (rowAt new) (zero-add n) ∙ new-row k)
+
+-- its bytes are the key
+pub row-added : (len val key : List ℕ) (n d v : ℕ) (bs : List ℕ) → length len ≡ 64 → length val ≡ 64 → length key ≡ 1024 → n < 64 → length bs ≡ d → d ≤ 16
+    → rowsFrom (columns (set len n d) (set val n v) (put key (16 * n) bs)) 0 (suc n) ≡ rowsFrom (columns len val key) 0 n ++ (entry bs v ∷ [])
+row-added len val key n d v bs a b c m e h =
+    let k : min d 16 ≡ length bs = omega arith in
+    row-put len val key n d v bs a b c m (omega arith) (omega arith) ∙ ap (λ (l : List ℕ). rowsFrom (columns len val key) 0 n ++ (entry l v ∷ [])) (ap (λ (w : ℕ). area 0 w bs) k ∙ area-all bs)
 
 -- the first row, and the others
 pub rows-first : (t : Columns) (i b : ℕ) → i < b → rowsFrom t i (b - i) ≡ rowAt t i ∷ rowsFrom t (i + 1) (b - (i + 1))
@@ -94,15 +104,23 @@ rows-get t zero i (suc n) d h = rw add-zero
 rows-get t (suc c) i zero d h = absurd (omega arith)
 rows-get t (suc c) i (suc n) d h = let e : i + 1 + c ≡ i + suc c = omega arith in rows-get t c (i + 1) n d (omega arith) ∙ ap (rowAt t) e
 
--- one row copied
-pub copied : (t : Columns) (i b : ℕ) (xs ys zs : List Entry) (k : List ℕ) (v : ℕ) → i < b → k ≡ area (16 * i) (lengthOf (t .len) i) (t .key) → v ≡ getD (t .val) i 0
-    → ys ≡ xs ++ (entry k v ∷ []) → xs ++ rowsFrom t i (b - i) ≡ zs → ys ++ rowsFrom t (i + 1) (b - (i + 1)) ≡ zs
-copied t i b xs ys zs k v h ek ev e f =
-    let r = rowsFrom t (i + 1) (b - (i + 1)) in
-    ap (λ (l : List Entry). l ++ r) (e ∙ ap₂ (λ (a : List ℕ) (c : ℕ). xs ++ (entry a c ∷ [])) ek ev)
-    ∙ append-assoc xs (rowAt t i ∷ []) r
-    ∙ ap (λ (l : List Entry). xs ++ l) (sym (rows-first t i b h))
-    ∙ f
+-- one row copied: its 16 bytes, whatever its length
+module _ (t : Columns) (i : ℕ) where
+  pub row-copied : (len val key : List ℕ) (n : ℕ) → length len ≡ 64 → length val ≡ 64 → length key ≡ 1024 → n < 64 → length (t .key) ≡ 1024 → i < 64
+      → rowsFrom (columns (set len n (getD (t .len) i 0)) (set val n (getD (t .val) i 0)) (put key (16 * n) (area (16 * i) 16 (t .key)))) 0 (n + 1)
+      ≡ rowsFrom (columns len val key) 0 n ++ (rowAt t i ∷ [])
+  row-copied len val key n a b c m l h =
+      let e = length-area (16 * i) 16 (t .key) (omega arith) in
+      let d = lengthOf (t .len) i in
+      ap (rowsFrom _ 0) (add-one n)
+      ∙ row-put len val key n (getD (t .len) i 0) (getD (t .val) i 0) (area (16 * i) 16 (t .key)) a b c m (omega arith) (omega arith)
+      ∙ ap (λ (k : List ℕ). rowsFrom (columns len val key) 0 n ++ (entry k (getD (t .val) i 0) ∷ []))
+      (area-area (16 * i) 16 (t .key) 0 d (omega arith) ∙ ap (λ (at : ℕ). area at d (t .key)) (add-zero (16 * i)))
+
+  pub copied : (b : ℕ) (xs ys zs : List Entry) → i < b → ys ≡ xs ++ (rowAt t i ∷ []) → xs ++ rowsFrom t i (b - i) ≡ zs → ys ++ rowsFrom t (i + 1) (b - (i + 1)) ≡ zs
+  copied b xs ys zs h e f =
+      let r = rowsFrom t (i + 1) (b - (i + 1)) in
+      ap (λ (l : List Entry). l ++ r) e ∙ append-assoc xs (rowAt t i ∷ []) r ∙ ap (λ (l : List Entry). xs ++ l) (sym (rows-first t i b h)) ∙ f
 
 -- a key's place among the rows
 module _ (t : Columns) (k : List ℕ) (i n : ℕ) (b : Bool) (h : i < n) (e : b ≡ comesBefore (area (16 * i) (lengthOf (t .len) i) (t .key)) k) where

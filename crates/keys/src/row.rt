@@ -77,18 +77,23 @@ fn copy_rows(from: Table, a: usize, b: usize, to: Table) -> Table
     requires { ⌜ (a ≤ b) × ((b ≤ 64) × (to .n + (b - a) ≤ 64)) ⌝ }
     ensures { λ r. ⌜ (tabled r ≡ tabled to ++ rowsFrom (columns (from .len) (from .val) (from .key)) a (b - a)) × (r .n ≡ to .n + (b - a)) ⌝ }
 {
-    let len = from.len;
-    let val = from.val;
-    let key = from.key;
-    let mut t = to;
+    let lens = from.len;
+    let vals = from.val;
+    let keys = from.key;
+    let mut n = to.n;
+    let mut len = to.len;
+    let mut val = to.val;
+    let mut key = to.key;
     let mut i = a;
     while i < b {
+        len[n] = lens[i];
+        val[n] = vals[i];
         let at = 16 * i;
-        let m = row_len(&len, i);
-        t = append(t, &key[at..at + m], val[i]);
+        octets::copy_in(&mut key, 16 * n, &keys[at..at + 16]);
+        n += 1;
         i += 1;
     }
-    t
+    Table { n, len, val, key }
 }
 
 // How many keys come before k.

@@ -4,36 +4,53 @@ use mathlib.Core.List.{List, _++_, append-nil}
 use Prim.Native.Nat.{ℕ, _+_, _*_, _-_, _≤_}
 use native.Mathlib.Omega.{arith}
 use borrow.Author.Needs.{needs}
-use lib.ListN.{length, take, drop, length-take, length-drop}
-use Rattle.octets.specs.Place.{area}
-use Rattle.octets.proofs.Laws.{part-area}
+use lib.ListN.{length, take, drop, set, getD, length-set}
+use Rattle.octets.specs.Place.{put}
+use Rattle.octets.proofs.Laws.{part-is, length-area, length-put}
 use Rattle.keys.specs.Entries.{Entry}
-use Rattle.keys.specs.Table.{columns, rowsFrom, tabled}
-use Rattle.keys.proofs.Rows.{copied, rows-none}
+use Rattle.keys.specs.Table.{columns, rowsFrom}
+use Rattle.keys.proofs.Rows.{row-copied, copied, rows-none}
 use Rattle.keys.proofs.row.copy_rows.Statement.{statement}
 use Rattle.keys.proofs.row.copy_rows.Tie as tie
 
 abbrev Inv-loop : tie.InvT-loop
-Inv-loop a b len val key t₀ i₀ t i =
-    (i ≤ b) × (length key ≡ 1024) × (b ≤ 64) × (t .n + (b - i) ≡ t₀ .n + (b - a)) × (t₀ .n + (b - a) ≤ 64)
-    × (tabled t ++ rowsFrom (columns len val key) i (b - i) ≡ tabled t₀ ++ rowsFrom (columns len val key) a (b - a))
+Inv-loop a b lens vals keys n₀ len₀ val₀ key₀ i₀ n len val key i =
+    (i ≤ b) × (b ≤ 64) × (n + (b - i) ≡ n₀ + (b - a)) × (n₀ + (b - a) ≤ 64)
+    × (length keys ≡ 1024) × (length len ≡ 64) × (length val ≡ 64) × (length key ≡ 1024)
+    × (rowsFrom (columns len val key) 0 n ++ rowsFrom (columns lens vals keys) i (b - i) ≡ rowsFrom (columns len₀ val₀ key₀) 0 n₀ ++ rowsFrom (columns lens vals keys) a (b - a))
 
 abbrev μ-loop : tie.MeasureT-loop
-μ-loop a b len val key t₀ i₀ t i = b - i
+μ-loop a b lens vals keys n₀ len₀ val₀ key₀ i₀ n len val key i = b - i
 
-length-part : (s : List ℕ) (at n : ℕ) → at + n ≤ length s → length (take (at + n - at) (drop at s)) ≡ n
-length-part s at n h = simp (length-take, length-drop) (omega arith)
+length-block : (s : List ℕ) (i : ℕ) → 16 * i + 16 ≤ length s → length (take (16 * i + 16 - 16 * i) (drop (16 * i) s)) ≡ 16
+length-block s i h = ap length (part-is (16 * i) 16 s) ∙ length-area (16 * i) 16 s h
 
 keys : (s : tie.Start Inv-loop μ-loop) → length (s .args .from .key) ≡ 1024
 keys s = search needs
+
+lens : (s : tie.Start Inv-loop μ-loop) → length (s .args .to .len) ≡ 64
+lens s = search needs
+
+vals : (s : tie.Start Inv-loop μ-loop) → length (s .args .to .val) ≡ 64
+vals s = search needs
+
+keys-to : (s : tie.Start Inv-loop μ-loop) → length (s .args .to .key) ≡ 1024
+keys-to s = search needs
 
 pub copy-rows-spec : {M : Type 1} → statement M
 copy-rows-spec =
     tie.close
     (tie.spec Inv-loop μ-loop
-    (λ c. (omega arith, keys c.before.before.before, omega arith, refl, omega arith, refl))
+    (λ c.
+    let s = c.before.before.before.before.before.before in
+    (omega arith, omega arith, refl, omega arith, keys s, lens s, vals s, keys-to s, refl))
     (λ c. omega arith)
-    (λ c κs. omega arith)
+    (λ c. omega arith)
+    (λ c. omega arith)
+    (λ c. omega arith)
+    (λ c. omega arith)
+    (λ c. omega arith)
+    (λ c. omega arith)
     (λ c. omega arith)
     (λ c. omega arith)
     (λ c. omega arith)
@@ -41,26 +58,31 @@ copy-rows-spec =
     (λ c. omega arith)
     (λ c. omega arith)
     (λ c κs.
-    let x = c.before.before.before.before.before.before.before.before.before .args .from in
-    let l = c.before.before.before.before.before .loop in
-    (omega (arith, c.before.before.before.before .loop-test .taken), omega (arith, l .inv .1, length-part (x .key) (16 * l .i) (c.before.before .row-len .result) (omega arith))))
+    let l = c.before.before.before.before .loop in
+    omega (arith, l .inv .7, length-block (c.before.before.before.before.before.before.before.before.before.before.before .args .from .key) (l .i) (omega (arith, l .inv .4))))
+    (λ c. omega arith)
     (λ c. omega arith)
     (λ c. omega arith)
     (λ c.
-    let x = c.before.before.before.before.before.before.before.before.before.before .args .from in
+    let x = c.before.before.before.before.before.before.before.before.before.before.before.before.before .args in
     let l = c.before.before.before.before.before.before .loop in
-    let m = c.before.before.before .row-len .result in
-    let e : 16 * l .i + m - 16 * l .i ≡ m = omega arith in (
+    let t = columns (x .from .len) (x .from .val) (x .from .key) in
+    let e = c.before .copy-in .ensures ∙ ap (put (l .key) (16 * l .n)) (part-is (16 * l .i) 16 (x .from .key)) in (
       omega arith,
       l .inv .1,
-      l .inv .2,
       omega arith,
+      l .inv .3,
       l .inv .4,
-      copied (columns (x .len) (x .val) (x .key)) (l .i) (c.before.before.before.before.before.before.before.before.before.before .args .b) (tabled (l .t)) _ _ _ _ (omega arith)
-          (part-area (16 * l .i) (16 * l .i + m - 16 * l .i) (x .key) ∙ ap (λ (k : ℕ). area (16 * l .i) k (x .key)) (e ∙ c.before.before.before .row-len .ensures .0)) refl
-          (c .append .ensures .0) (l .inv .5),
+      length-set (l .len) (l .n) _ ∙ l .inv .5,
+      length-set (l .val) (l .n) _ ∙ l .inv .6,
+      ap length e ∙ length-put (l .key) (16 * l .n) _ (omega (arith, l .inv .7, length-area (16 * l .i) 16 (x .from .key) (omega (arith, l .inv .4)))) ∙ l .inv .7,
+      copied t (l .i) (x .b) (rowsFrom (columns (l .len) (l .val) (l .key)) 0 (l .n)) _ _ (omega arith)
+          (ap (λ (k : List ℕ). rowsFrom (columns (set (l .len) (l .n) (getD (x .from .len) (l .i) 0)) (set (l .val) (l .n) (getD (x .from .val) (l .i) 0)) k) 0 (l .n + 1)) e
+          ∙ row-copied t (l .i) (l .len) (l .val) (l .key) (l .n) (l .inv .5) (l .inv .6) (l .inv .7) (omega arith) (l .inv .4) (omega arith))
+          (l .inv .8),
     ))
     (λ c.
-    let x = c.before.before.before.before.before .args .from in
+    let x = c.before.before.before.before.before.before.before.before .args in
     let l = c.before .loop in
-    (sym (append-nil (tabled (l .t))) ∙ ap (λ (es : List Entry). tabled (l .t) ++ es) (sym (rows-none (columns (x .len) (x .val) (x .key)) (l .i) _ (omega arith))) ∙ l .inv .5, omega arith)))
+    let rows = rowsFrom (columns (l .len) (l .val) (l .key)) 0 (l .n) in
+    (sym (append-nil rows) ∙ ap (λ (es : List Entry). rows ++ es) (sym (rows-none (columns (x .from .len) (x .from .val) (x .from .key)) (l .i) _ (omega arith))) ∙ l .inv .8, omega arith)))
