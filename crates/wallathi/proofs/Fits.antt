@@ -13,7 +13,7 @@ use Rattle.id.specs.Id.{below}
 use Rattle.id.specs.declared.Following.{Following}
 use Rattle.id.specs.declared.Following.the-variants.{Next, Exhausted}
 use Rattle.slip.specs.Slip.{slip, parseSlip}
-use Rattle.node.specs.Message.{Pair, Message}
+use Rattle.node.specs.Message.{Pair, Message, message}
 use Rattle.node.specs.Step.{fitsAlone, findMessage, firstFrom, firstAfter, valueOf}
 use Rattle.groups.specs.Group.{Pending, Group, isName, mostPending}
 use Rattle.groups.specs.Area.{mostGroups}
@@ -23,7 +23,7 @@ use Rattle.stream.specs.Ledger.{Ledger}
 use Rattle.stream.specs.Cut.{freshCut}
 use Rattle.stream.specs.Command as Stream
 use Rattle.stream.specs.Command.{Answer, refused, done, given, counted, written, entry, moved, nothing, absent, notMoved}
-use Rattle.stream.specs.LedgerStep.{LedgerStep, Beside, GroupStep, refuses, leaves, onSetUp, message, addAs, onAdd, clockId, addFollowing, onAddByClock, onDelete, onTrim, idReply, writes, readReply, valueReply, fieldReply, replyTo, onCreate, onDestroy, delivers, acknowledges, claims, pendingReply, onGroup, areArguments, inLedger, ruled, ledgerStep}
+use Rattle.stream.specs.LedgerStep.{LedgerStep, Beside, GroupStep, refuses, leaves, onSetUp, addAs, onAdd, clockId, addFollowing, onAddByClock, onDelete, onTrim, idReply, writes, readReply, valueReply, fieldReply, replyTo, onCreate, onDestroy, delivers, acknowledges, claims, pendingReply, onGroup, areArguments, inLedger, ruled, ledgerStep}
 use Rattle.snapshot.specs.Bytes.{snapshotOf}
 use Rattle.snapshot.specs.Command.{Command, onStream, save, load, saveReply}
 

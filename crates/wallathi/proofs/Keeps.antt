@@ -21,7 +21,7 @@ use Rattle.id.specs.Id.{Fits64, isId, least, below, atMost}
 use Rattle.id.proofs.Laws.{id-fits}
 use Rattle.slip.specs.Slip.{parseSlip}
 use Rattle.slip.specs.Pair.{arePairs}
-use Rattle.node.specs.Message.{Pair, Message, isMessage}
+use Rattle.node.specs.Message.{Pair, Message, isMessage, message}
 use Rattle.node.specs.Step.{fitsAlone, findMessage, firstAfter, withoutMessage}
 use Rattle.groups.specs.Group.{Pending, Group, isName, mostPending}
 use Rattle.groups.specs.Area.{areaBytes, parseArea, isGroups, mostGroups}
@@ -32,7 +32,7 @@ use Rattle.stream.specs.Ledger.{Ledger, withMessages, messagesAbove}
 use Rattle.stream.specs.Cut.{Node, Model, messagesOf, ledgerOf, isModel, addMessage, lacksSlot, deleteOldest}
 use Rattle.stream.specs.Command as Stream
 use Rattle.stream.specs.Command.{Answer, isRefusal, refused, done, counted}
-use Rattle.stream.specs.LedgerStep.{GroupStep, leaves, message, clockId, onCreate, onGroup, onTrim, delivers, acknowledges, claims, areArguments}
+use Rattle.stream.specs.LedgerStep.{GroupStep, leaves, clockId, onCreate, onGroup, onTrim, delivers, acknowledges, claims, areArguments}
 use Rattle.stream.specs.Step.{Step, step}
 use Rattle.stream.proofs.Laws.{model-rules, model-ledger, ledger-rules, model-of, model-keep, model-delete, model-trim, model-add, renoded, stepOf, regrouped, step-refused, step-stays, step-groups, step-goes, step-asks, step-unruled, step-no-group, step-in-group, Adds, adds-by-id, clock-above, add-no-slip, clock-no-slip, add-low, clock-exhausted, add-large, add-full, add-goes, delete-none, trim-none, messages-delete, messages-oldest, messages-add, delete-differs, trim-differs, add-differs}
 use Rattle.snapshot.specs.Command.{isSetUp}
