@@ -1,6 +1,6 @@
 -- `zero_after` meets its contract. Assumes nothing.
-use mathlib.Core.Path.{_≡_, ap, ap₂, _∙_}
-use Prim.Native.Nat.{ℕ, _*_, _^_}
+use mathlib.Core.Path.{ap₂, _∙_}
+use Prim.Native.Nat.{_*_}
 use native.Mathlib.Nat.{one-mul}
 use native.Mathlib.Omega.{arith}
 use borrow.Author.Needs.{needs}

@@ -5,7 +5,7 @@ use Prim.Native.Nat.{ℕ, _+_, _*_, _-_, _<_, _^_}
 use native.Mathlib.Numerals.{add-one}
 use native.Mathlib.Omega.{arith}
 use borrow.Author.Needs.{needs}
-use lib.ListN.{length, take, getD, set}
+use lib.ListN.{take, getD, set}
 use lib.Seq.{length-take-le}
 use Rattle.octets.specs.Place.{put}
 use Rattle.keys.specs.Table.{columns, rowsFrom}
