@@ -2,16 +2,17 @@
 
 ghost use mathlib.Core.Path.{_≡_};
 ghost use mathlib.Core.Option.{Option};
+ghost use lib.ListN.{length};
 ghost use Rattle.keys.specs.Entries.{Entry};
 ghost use Rattle.keys.specs.Operation.{refused, firstAtOrAbove, lastAtOrBelow, replyIn, entryReply};
 ghost use Rattle.radix.specs.Record.{entriesOf};
+ghost use Rattle.radix_bytes.specs.Bytes.{recordSize, recordFrom};
 ghost use Rattle.radix_walk.specs.Neighbours.{nearOf};
 ghost use Rattle.keys.specs.Answer.{neighbourOf};
 ghost use Rattle.keys.specs.Listing.{IsSound};
 use keys::Neighbour;
 use keys::Outcome;
 use keys::is_key;
-use radix::Index;
 use radix_walk::Near;
 
 fn refusal(n: u32) -> Neighbour
@@ -49,44 +50,26 @@ fn neighbour_of(n: Near) -> Neighbour
 }
 
 // For a record that is known to hold entries.
-pub fn first_at_or_above_sound(x: Index, k: &[u8]) -> Neighbour
-    requires { ⌜ IsSound (entriesOf x) ⌝ }
-    ensures { λ r. ⌜ r ≡ neighbourOf (replyIn (firstAtOrAbove (now (k .entry))) (entriesOf x)) ⌝ }
+pub fn first_at_or_above_sound(s: &[u8], k: &[u8]) -> Neighbour
+    requires { ⌜ (length (now s) ≡ recordSize) × IsSound (entriesOf (recordFrom (now s))) ⌝ }
+    ensures { λ r. ⌜ r ≡ neighbourOf (replyIn (firstAtOrAbove (now (k .entry))) (entriesOf (recordFrom (now (s .entry))))) ⌝ }
 {
     if !is_key(k) {
         return refusal(3);
     }
-    let root = radix::wide_link(x.root);
-    let first = radix::link_at(&x.child, root);
-    neighbour_of(radix_walk::first_from(
-        &x.len,
-        &x.key,
-        &x.child,
-        &x.next,
-        &x.val,
-        &x.label,
-        first,
-        k,
-    ))
+    let root = radix_bytes::root_of(s);
+    let first = radix_bytes::child_at(s, root);
+    neighbour_of(radix_walk::first_from(s, first, k))
 }
 
-pub fn last_at_or_below_sound(x: Index, k: &[u8]) -> Neighbour
-    requires { ⌜ IsSound (entriesOf x) ⌝ }
-    ensures { λ r. ⌜ r ≡ neighbourOf (replyIn (lastAtOrBelow (now (k .entry))) (entriesOf x)) ⌝ }
+pub fn last_at_or_below_sound(s: &[u8], k: &[u8]) -> Neighbour
+    requires { ⌜ (length (now s) ≡ recordSize) × IsSound (entriesOf (recordFrom (now s))) ⌝ }
+    ensures { λ r. ⌜ r ≡ neighbourOf (replyIn (lastAtOrBelow (now (k .entry))) (entriesOf (recordFrom (now (s .entry))))) ⌝ }
 {
     if !is_key(k) {
         return refusal(3);
     }
-    let root = radix::wide_link(x.root);
-    let first = radix::link_at(&x.child, root);
-    neighbour_of(radix_walk::last_from(
-        &x.len,
-        &x.key,
-        &x.child,
-        &x.next,
-        &x.val,
-        &x.label,
-        first,
-        k,
-    ))
+    let root = radix_bytes::root_of(s);
+    let first = radix_bytes::child_at(s, root);
+    neighbour_of(radix_walk::last_from(s, first, k))
 }

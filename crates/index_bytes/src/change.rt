@@ -34,7 +34,7 @@ pub fn build(t: Table, bytes: &mut [u8])
     requires { ⌜ (isMap (tabled t) ≡ true) × (length (now bytes) ≡ recordSize) ⌝ }
     ensures { λ _. ⌜ (now (bytes .exit) ≡ recordBytes (tabled t)) × (entriesIn (now (bytes .exit)) ≡ some (tabled t)) ⌝ }
 {
-    radix_bytes::to_bytes(radix::build(t), bytes);
+    radix_bytes::build(t, bytes);
 }
 
 // Put, where the table t has the entries of the bytes.

@@ -2,14 +2,13 @@
 use mathlib.Core.Bool.{Bool, true, false}
 use mathlib.Core.Path.{_≡_, ap, _∙_}
 use mathlib.Core.List.{List}
-use Prim.Native.Nat.{ℕ, suc, _+_, _*_, _-_, _≤_, _<_}
-use native.Mathlib.Omega.{arith}
+use Prim.Native.Nat.{ℕ, _+_, _*_, _-_, _≤_, _<_}
 use borrow.Author.Tests.{ne-eqb, le-leb, lt-leb}
 use lib.ListN.{getD, take, drop}
 use Rattle.octets.specs.Place.{area}
 use Rattle.octets.specs.Compare.{allZero}
 use Rattle.octets.proofs.Laws.{part-area}
-use Rattle.radix.specs.Record.{Nodes, isFree, isFlag, isTidy, isPlace, areClean}
+use Rattle.radix.specs.Record.{Nodes, isFree, isFlag, isTidy}
 
 -- bytes of a lent part
 pub zero-part : (l : List ℕ) (at n m : ℕ) → n ≡ m → allZero (take n (drop at l)) ≡ allZero (area at m l)
@@ -57,20 +56,3 @@ module _ (x : Nodes) (p a : ℕ) (e : a ≡ getD (x .len) p 0) where
     pub tidy-tail : b ≡ true → (t : Bool) → t ≡ allZero (area (16 * p + a) (16 - a) (x .label)) → t ≡ isTidy x p
     unfolding isTidy
     tidy-tail z t r = rw (← e, le-leb a 16 l, ← f, z) r
-
--- place by place
-module _ (x : Nodes) (m : List ℕ) (p : ℕ) (b : Bool) (h : p < 256) (e : b ≡ isPlace x m p) where
-  left : 256 - p ≡ suc (256 - (p + 1))
-  left = omega arith
-
-  pub clean-stop : b ≡ false → false ≡ areClean x m p (256 - p)
-  unfolding areClean
-  clean-stop z = rw (left, ← e, z)
-
-  pub clean-next : b ≡ true → areClean x m (p + 1) (256 - (p + 1)) ≡ areClean x m p (256 - p)
-  unfolding areClean
-  clean-next z = rw (left, ← e, z)
-
-pub clean-end : (x : Nodes) (m : List ℕ) (p n : ℕ) → n ≡ 0 → true ≡ areClean x m p n
-unfolding areClean
-clean-end x m p n e = rw e

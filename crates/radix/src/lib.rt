@@ -3,15 +3,9 @@
 
 mod construction;
 mod judge;
-mod pool;
 
 pub use construction::build;
 pub use judge::leads;
-pub use pool::byte_at;
-pub use pool::label_len;
-pub use pool::link_at;
-pub use pool::wide_link;
-pub use pool::word_at;
 
 // The record, drawn in specs/Record.antt.
 pub struct Index {

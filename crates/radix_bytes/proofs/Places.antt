@@ -47,6 +47,12 @@ module _ (s : List ℕ) (p : ℕ) (h : p < 256) where
   unfolding recordFrom
   label-of i m l = area-area 2562 4096 s (16 * p + i) m (omega arith)
 
+pub label-in : (s : List ℕ) (p n : ℕ) → p < 256 → n ≤ 16 → area (2562 + 16 * p) n s ≡ area (16 * p) n (poolIn s .label)
+label-in s p n h k =
+    let f : 2562 + 16 * p ≡ 2562 + (16 * p + 0) = omega arith in
+    let g : 16 * p + 0 ≡ 16 * p = omega arith in
+    ap (λ (i : ℕ). area i n s) f ∙ sym (label-of s p h 0 n (omega arith)) ∙ ap (λ (i : ℕ). area i n (poolIn s .label)) g
+
 pub root-of : (s : List ℕ) → leValue (area 0 2 s) ≡ recordFrom s .root
 unfolding recordFrom
 root-of s = refl

@@ -1,14 +1,13 @@
 -- Numbers of w bytes each, written one after the other and read back. Assumes nothing.
 use mathlib.Core.Path.{_≡_, refl, sym, ap, ap₂, _∙_, subst⁻¹}
 use mathlib.Core.List.{List, [], _∷_, _++_, append-assoc}
-use Prim.Native.Nat.{ℕ, zero, suc, _+_, _*_, _-_, _^_, _<_, _≤_}
+use Prim.Native.Nat.{ℕ, zero, suc, _+_, _*_, _^_, _<_, _≤_}
 use native.Mathlib.Nat.{add-assoc}
 use native.Mathlib.Omega.{arith}
-use lib.ListN.{length, drop, getD, set, length-append, drop-of-length-le}
+use lib.ListN.{length, drop, getD, length-append, drop-of-length-le}
 use Rattle.octets.specs.Bytes.{Bytes, le, leValue}
 use Rattle.octets.specs.Place.{area, put}
-use Rattle.octets.proofs.Laws.{put-first}
-use Rattle.octets.proofs.Laws.{cut, length-le, value-le, le-value, value-le-lt, length-area, bytes-area, bytes-nil, bytes-append, bytes-le, area-add, area-none, area-left, area-append-right, put-append, put-none, put-all, length-put}
+use Rattle.octets.proofs.Laws.{cut, length-le, value-le, le-value, value-le-lt, length-area, bytes-area, bytes-nil, bytes-append, bytes-le, area-add, area-none, area-left, area-append-right, put-append, put-none, length-put}
 use Rattle.radix_bytes.specs.Bytes.{wordBytes, wordsAt, Fit}
 
 pub length-words : (w : ℕ) (vs : List ℕ) → length (wordBytes w vs) ≡ w * length vs
@@ -65,30 +64,6 @@ pub bytes-words : (w : ℕ) (vs : List ℕ) → Bytes (wordBytes w vs)
 unfolding wordBytes
 bytes-words w [] = bytes-nil
 bytes-words w (v ∷ vs) = bytes-append (bytes-le w v) (bytes-words w vs)
-
--- a loop that reads n numbers: what is left is to put the rest of them
-module _ (w : ℕ) (s : List ℕ) (at n : ℕ) where
-  pub read-start : (out : List ℕ) → length out ≡ n → wordsAt w s at n ≡ put out 0 (wordsAt w s (at + w * 0) (n - 0))
-  read-start out l =
-      let e : at + w * 0 ≡ at = omega arith in
-      let m : n - 0 ≡ n = omega arith in
-      sym (ap₂ (λ (i k : ℕ). put out 0 (wordsAt w s i k)) e m ∙ put-all out (wordsAt w s at n) (length-words-at w s at n ∙ sym l))
-
-  pub read-next : (i v : ℕ) (out : List ℕ) → i < n → length out ≡ n → v ≡ leValue (area (at + w * i) w s)
-      → put out i (wordsAt w s (at + w * i) (n - i)) ≡ put (set out i v) (i + 1) (wordsAt w s (at + w * (i + 1)) (n - (i + 1)))
-  unfolding wordsAt
-  read-next i v out h l e =
-      let m : n - i ≡ suc (n - (i + 1)) = omega arith in
-      let q : at + w * i + w ≡ at + w * (i + 1) = omega arith in
-      ap (λ (k : ℕ). put out i (wordsAt w s (at + w * i) k)) m
-      ∙ ap₂ (λ (x j : ℕ). put out i (x ∷ wordsAt w s j (n - (i + 1)))) (sym e) q
-      ∙ put-first out i v (wordsAt w s (at + w * (i + 1)) (n - (i + 1))) (omega arith)
-
-  pub read-end : (i p : ℕ) (out : List ℕ) → n ≤ i → put out i (wordsAt w s p (n - i)) ≡ out
-  unfolding wordsAt
-  read-end i p out h =
-      let m : n - i ≡ 0 = omega arith in
-      ap (λ (k : ℕ). put out i (wordsAt w s p k)) m ∙ put-none out i
 
 -- a loop that writes the numbers of a
 module _ (w at : ℕ) (a : List ℕ) where

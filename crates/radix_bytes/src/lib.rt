@@ -1,7 +1,6 @@
-// The record of a radix index as bytes and back. The bytes are drawn in specs/Bytes.
+// The record of a radix index as bytes: its fields read there, and the bytes written. The bytes are drawn in specs/Bytes.
 
 mod place;
-mod read;
 mod write;
 
 pub use place::child_at;
@@ -12,5 +11,4 @@ pub use place::len_at;
 pub use place::next_at;
 pub use place::root_of;
 pub use place::value_at;
-pub use read::from_bytes;
-pub use write::to_bytes;
+pub use write::build;

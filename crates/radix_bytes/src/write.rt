@@ -1,13 +1,18 @@
 // The bytes of a record.
 
 ghost use mathlib.Core.Path.{_≡_};
+ghost use mathlib.Core.Bool.{true};
 ghost use mathlib.Core.List.{_++_};
 ghost use Prim.Native.Nat.{_+_, _^_, _≤_, _<_};
 ghost use lib.ListN.{length};
 ghost use Rattle.octets.specs.Bytes.{le};
-ghost use Rattle.octets.specs.Place.{put};
+ghost use Rattle.octets.specs.Place.{area, put};
+ghost use Rattle.keys.specs.Entries.{isMap};
+ghost use Rattle.keys.specs.Table.{tabled};
+ghost use Rattle.radix.specs.Record.{lent, rooted};
+ghost use Rattle.radix.specs.Layout.{recordOf};
 ghost use Rattle.radix_bytes.specs.Bytes.{recordSize, wordBytes, bytesOf, recordFrom, Fit};
-use radix::Index;
+use keys::Table;
 
 fn wide_link(x: u16) -> u64
     ensures { λ r. ⌜ (r ≡ x) × (r < 2 ^ 16) ⌝ }
@@ -60,20 +65,42 @@ fn write_tree<'a>(child: &'a [u16], next: &'a [u16], out: &mut [u8])
     write_links(out, 1026, next);
 }
 
-fn write_tail<'a>(val: &'a [u32], label: &'a [u8], out: &mut [u8])
-    requires { ⌜ (length (now val) ≡ 256) × ((length (now label) ≡ 4096) × (length (now out) ≡ recordSize)) ⌝ }
-    ensures { λ _. ⌜ (now (out .exit) ≡ put (now (out .entry)) 1538 (wordBytes 4 (now (val .entry)) ++ now (label .entry))) × Fit 4 (now (val .entry)) ⌝ }
+// The fields but the labels, which stand in their place already. The root is at place 0; what is written reads back as the record.
+fn write_fields<'a>(
+    len: &'a [u8; 256],
+    key: &'a [u8; 256],
+    child: &'a [u16; 256],
+    next: &'a [u16; 256],
+    val: &'a [u32; 256],
+    out: &mut [u8],
+)
+    requires { ⌜ length (now out) ≡ recordSize ⌝ }
+    ensures { λ _. ⌜ (now (out .exit) ≡ bytesOf (rooted (lent (now (len .entry)) (now (key .entry)) (now (child .entry)) (now (next .entry)) (now (val .entry)) (area 2562 4096 (now (out .entry)))))) × (recordFrom (now (out .exit)) ≡ rooted (lent (now (len .entry)) (now (key .entry)) (now (child .entry)) (now (next .entry)) (now (val .entry)) (area 2562 4096 (now (out .entry))))) ⌝ }
 {
+    write_head(0, len, key, out);
+    write_tree(child, next, out);
     write_values(out, 1538, val);
-    octets::copy_in(out, 2562, label);
 }
 
-// What is written reads back as the record.
-pub fn to_bytes(x: Index, out: &mut [u8])
-    requires { ⌜ length (now out) ≡ recordSize ⌝ }
-    ensures { λ _. ⌜ (now (out .exit) ≡ bytesOf x) × (recordFrom (now (out .exit)) ≡ x) ⌝ }
+// The record of a table of a map.
+pub fn build(t: Table, out: &mut [u8])
+    requires { ⌜ (isMap (tabled t) ≡ true) × (length (now out) ≡ recordSize) ⌝ }
+    ensures { λ _. ⌜ (now (out .exit) ≡ bytesOf (recordOf (tabled t))) × (recordFrom (now (out .exit)) ≡ recordOf (tabled t)) ⌝ }
 {
-    write_head(x.root, &x.len, &x.key, out);
-    write_tree(&x.child, &x.next, out);
-    write_tail(&x.val, &x.label, out);
+    let mut len = [0u8; 256];
+    let mut key = [0u8; 256];
+    let mut child = [0u16; 256];
+    let mut next = [0u16; 256];
+    let mut val = [0u32; 256];
+    octets::zero(out, 2562, 4096);
+    radix::build(
+        t,
+        &mut len,
+        &mut key,
+        &mut child,
+        &mut next,
+        &mut val,
+        &mut out[2562..6658],
+    );
+    write_fields(&len, &key, &child, &next, &val, out);
 }

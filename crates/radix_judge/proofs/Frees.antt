@@ -1,17 +1,18 @@
 -- Places without a mark, one after the other and all at once. Assumes nothing.
 use mathlib.Core.Bool.{Bool, true, false}
-use mathlib.Core.Path.{_≡_, refl, sym, ap, _∙_}
+use mathlib.Core.Path.{_≡_, refl, sym, ap, ap₂, _∙_}
 use mathlib.Core.List.{List}
 use Prim.Native.Nat.{ℕ, zero, suc, _+_, _*_, _-_, _≤_, _<_}
+use native.Mathlib.Nat.{add-zero}
 use native.Mathlib.Omega.{arith}
 use borrow.Author.Tests.{eq-eqb, ne-eqb}
 use lib.Dec.{eqb}
-use lib.ListN.{length, getD, take, drop}
+use lib.ListN.{length, getD, getD-replicate, replicate, take, drop}
 use Rattle.octets.specs.Pick.{pick, both}
-use Rattle.octets.specs.Bytes.{leValue, zeros}
+use Rattle.octets.specs.Bytes.{Bytes, le, leValue, zeros}
 use Rattle.octets.specs.Place.{area}
 use Rattle.octets.specs.Compare.{allZero}
-use Rattle.octets.proofs.Laws.{pick-same, both-of, both-true, zero-all, all-zero, value-le-zeros, length-area, getD-area, area-area, area-zeros}
+use Rattle.octets.proofs.Laws.{pick-same, both-of, both-true, zero-all, all-zero, value-le-zeros, le-value, bytes-area, length-area, getD-area, area-area, area-zeros}
 use Rattle.radix.proofs.Laws.{zero-part as part-is}
 use Rattle.radix.specs.Record.{Nodes, isFree}
 use Rattle.radix_bytes.specs.Bytes.{poolIn}
@@ -38,6 +39,28 @@ free-end x m p n e = rw e
 -- a place with a mark
 pub free-marked : (x : Nodes) (m : List ℕ) (p : ℕ) → (getD m p 0 ≡ 0 → ⊥) → true ≡ pick (eqb (getD m p 0) 0) (isFree x p) true
 free-marked x m p z = rw (ne-eqb _ _ z)
+
+-- a word of 8 marks
+free-run : (x : Nodes) (m : List ℕ) (p k : ℕ) → p + k ≤ 256 → ((i : ℕ) → i < k → getD m (p + i) 0 ≡ 0 → ⊥) → areFree x m (p + k) (256 - (p + k)) ≡ areFree x m p (256 - p)
+free-run x m p zero h f = ap (λ (j : ℕ). areFree x m j (256 - j)) (add-zero p)
+free-run x m p (suc k) h f =
+    let e : p + suc k ≡ p + k + 1 = omega arith in
+    ap (λ (j : ℕ). areFree x m j (256 - j)) e
+    ∙ free-go x m (p + k) _ (omega arith) (free-marked x m (p + k) (f k (omega arith))) refl
+    ∙ free-run x m p k (omega arith) (λ i l. f i (omega arith))
+
+ones : le 8 72340172838076673 ≡ replicate 8 1
+unfolding le
+ones = refl
+
+pub free-word : (x : Nodes) (m : List ℕ) (p : ℕ) → Bytes m → p + 8 ≤ length m → p + 8 ≤ 256 → leValue (area p 8 m) ≡ 72340172838076673
+    → areFree x m (p + 8) (256 - (p + 8)) ≡ areFree x m p (256 - p)
+free-word x m p b l h v =
+    let w : replicate 8 1 ≡ area p 8 m =
+    sym ones ∙ ap₂ le (sym (length-area p 8 m l)) (sym v) ∙ le-value (area p 8 m) (bytes-area p 8 b) in
+    free-run x m p 8 h (λ i k z.
+    let q : _≡_ {A = ℕ} 1 0 = sym (getD-replicate 8 i 1 0 k) ∙ ap (λ (y : List ℕ). getD y i 0) w ∙ getD-area p 8 m i k ∙ z in
+    omega arith)
 
 free-all : (x : Nodes) (m : List ℕ) (p n : ℕ) → ((q : ℕ) → p ≤ q → q < p + n → isFree x q ≡ true) → areFree x m p n ≡ true
 unfolding areFree

@@ -60,12 +60,27 @@ fn free_from<'a>(s: &'a [u8], marks: &'a [u8], from: usize) -> bool
     true
 }
 
+// Where the first word of 8 marks stands that lacks one.
+fn marked_words(marks: &[u8]) -> usize
+    requires { ⌜ length (now marks) ≡ 256 ⌝ }
+    ensures { λ r. ⌜ (r ≤ 256) × ((x : Nodes) → areFree x (now (marks .entry)) r (256 - r) ≡ areFree x (now (marks .entry)) 0 256) ⌝ }
+{
+    let mut p = 0;
+    while p + 8 <= 256 {
+        if octets::read_le(marks, p, 8) != 0x0101_0101_0101_0101 {
+            return p;
+        }
+        p += 8;
+    }
+    p
+}
+
 // The first place without a mark.
 fn first_free(marks: &[u8]) -> usize
     requires { ⌜ length (now marks) ≡ 256 ⌝ }
     ensures { λ r. ⌜ (r ≤ 256) × ((x : Nodes) → areFree x (now (marks .entry)) r (256 - r) ≡ areFree x (now (marks .entry)) 0 256) ⌝ }
 {
-    let mut p = 0;
+    let mut p = marked_words(marks);
     while p < 256 {
         if marks[p] == 0 {
             return p;

@@ -14,7 +14,7 @@ mod node;
 mod walk;
 
 use free::rest_free;
-use node::tidy_at;
+use node::zero_word;
 use walk::visit;
 
 // The root's place: no label, no key, no sibling, no value.
@@ -31,7 +31,14 @@ fn root_at(s: &[u8], p: usize) -> bool
     if radix_bytes::next_at(s, p) != 0 {
         return false;
     }
-    tidy_at(s, p)
+    if radix_bytes::value_at(s, p) != 0 {
+        return false;
+    }
+    let at = 2562 + 16 * p;
+    if !zero_word(s, at) {
+        return false;
+    }
+    zero_word(s, at + 8)
 }
 
 // Whether the bytes hold entries.
@@ -49,7 +56,7 @@ pub fn is_sound(s: &[u8]) -> bool
     let mut marks = [0u8; 256];
     marks[root] = 1;
     let first = radix_bytes::child_at(s, root);
-    if 64 < visit(s, 256, true, 0, first, 0, 0, &mut marks) {
+    if 64 < visit(s, 256, first, 0, 0, &mut marks) {
         return false;
     }
     rest_free(s, &marks)

@@ -93,21 +93,32 @@ fn flag_at(s: &[u8], p: usize) -> bool
 }
 
 // Whether 8 bytes are zero, as one number.
-fn zero_word(s: &[u8], at: usize) -> bool
+pub fn zero_word(s: &[u8], at: usize) -> bool
     requires { ⌜ at + 8 ≤ length (now s) ⌝ }
     ensures { λ r. ⌜ r ≡ allZero (area at 8 (now (s .entry))) ⌝ }
 {
     octets::read_le(s, at, 8) == 0
 }
 
-// Whether the bytes after a label of n bytes are zero: of a short one by two words, which may overlap.
+// Whether the bytes of a word after its first k are zero.
+fn zero_after(s: &[u8], at: usize, k: usize) -> bool
+    requires { ⌜ (at + 8 ≤ length (now s)) × (k < 8) ⌝ }
+    ensures { λ r. ⌜ r ≡ allZero (area (at + k) (8 - k) (now (s .entry))) ⌝ }
+{
+    octets::read_le(s, at, 8) < 1 << (8 * k)
+}
+
+// Whether the bytes after a label of n bytes are zero: by the last word, and of a short one by another, which may overlap.
 fn ends_at(s: &[u8], p: usize, n: usize) -> bool
     requires { ⌜ (length (now s) ≡ recordSize) × ((p < 256) × (n ≤ 16)) ⌝ }
     ensures { λ r. ⌜ r ≡ allZero (area (16 * p + n) (16 - n) (poolIn (now (s .entry)) .label)) ⌝ }
 {
     let at = 2562 + 16 * p;
+    if n == 16 {
+        return true;
+    }
     if 8 < n {
-        return octets::all_zero_from(&s[at + n..at + 16], 0);
+        return zero_after(s, at + 8, n - 8);
     }
     if !zero_word(s, at + 8) {
         return false;
@@ -116,7 +127,7 @@ fn ends_at(s: &[u8], p: usize, n: usize) -> bool
 }
 
 // Whether a place in use is as it has to be.
-pub fn tidy_at(s: &[u8], p: usize) -> bool
+fn tidy_at(s: &[u8], p: usize) -> bool
     requires { ⌜ (length (now s) ≡ recordSize) × (p < 256) ⌝ }
     ensures { λ r. ⌜ r ≡ isTidy (poolIn (now (s .entry))) p ⌝ }
 {

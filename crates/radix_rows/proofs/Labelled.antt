@@ -1,6 +1,6 @@
 -- A label as a part of the bytes, and the root of bytes that were judged. Assumes nothing.
 use mathlib.Core.Bool.{true}
-use mathlib.Core.Path.{_≡_, sym, ap, ap₂, _∙_}
+use mathlib.Core.Path.{_≡_, ap, _∙_}
 use mathlib.Core.List.{List}
 use Prim.Native.Nat.{ℕ, _+_, _*_, _-_, _≤_, _<_}
 use native.Mathlib.Omega.{arith}
@@ -11,19 +11,14 @@ use Rattle.keys.proofs.Laws.{sound-some}
 use Rattle.radix.specs.Record.{entriesOf}
 use Rattle.radix.proofs.Laws.{holds, root-within}
 use Rattle.radix_bytes.specs.Bytes.{recordFrom, poolIn}
-use Rattle.radix_bytes.proofs.Laws.{label-of, label-size}
+use Rattle.radix_bytes.proofs.Laws.{label-in, label-size}
 use Rattle.radix_judge.specs.Visit.{isSound}
 use Rattle.radix_judge.proofs.Laws.{sound-holds}
 
 pub label-part : (s : List ℕ) (p n : ℕ) → p < 256 → n ≤ 16 → take (2562 + 16 * p + n - (2562 + 16 * p)) (drop (2562 + 16 * p) s) ≡ area (16 * p) n (poolIn s .label)
 label-part s p n h k =
     let e : 2562 + 16 * p + n - (2562 + 16 * p) ≡ n = omega arith in
-    let f : 2562 + 16 * p ≡ 2562 + (16 * p + 0) = omega arith in
-    let g : 16 * p + 0 ≡ 16 * p = omega arith in
-    part-area (2562 + 16 * p) (2562 + 16 * p + n - (2562 + 16 * p)) s
-    ∙ ap₂ (λ (i j : ℕ). area i j s) f e
-    ∙ sym (label-of s p h 0 n (omega arith))
-    ∙ ap (λ (i : ℕ). area i n (poolIn s .label)) g
+    part-area (2562 + 16 * p) (2562 + 16 * p + n - (2562 + 16 * p)) s ∙ ap (λ (j : ℕ). area (2562 + 16 * p) j s) e ∙ label-in s p n h k
 
 pub root-in : (s : List ℕ) → length s ≡ 6658 → isSound (recordFrom s) ≡ true → recordFrom s .root < 256
 root-in s z e =

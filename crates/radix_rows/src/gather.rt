@@ -12,30 +12,28 @@ ghost use Rattle.radix.specs.Answer.{rowsOf, Room, Within};
 ghost use Rattle.radix_bytes.specs.Bytes.{recordSize, poolIn};
 use radix::Gathered;
 
-// The bytes that lead to a node, d of them, and then the n bytes of its label.
-fn extended(path: [u8; 16], d: usize, s: &[u8], p: usize, n: usize) -> [u8; 16]
-    requires { ⌜ (d + n ≤ 16) × ((length (now s) ≡ recordSize) × (p < 256)) ⌝ }
-    ensures { λ r. ⌜ take (d + n) r ≡ take d path ++ area (16 * p) n (poolIn (now (s .entry)) .label) ⌝ }
+// To the d bytes of a path that lead to a node come the n bytes of its label.
+fn extend(path: &mut [u8], d: usize, s: &[u8], p: usize, n: usize)
+    requires { ⌜ (d + n ≤ 16) × ((length (now path) ≡ 16) × ((length (now s) ≡ recordSize) × (p < 256))) ⌝ }
+    ensures { λ _. ⌜ (take d (now (path .exit)) ≡ take d (now (path .entry))) × (take (d + n) (now (path .exit)) ≡ take d (now (path .entry)) ++ area (16 * p) n (poolIn (now (s .entry)) .label)) ⌝ }
 {
-    let mut r = path;
     let at = 2562 + 16 * p;
-    octets::copy_in(&mut r, d, &s[at..at + n]);
-    r
+    octets::copy_in(path, d, &s[at..at + n]);
 }
 
 // One row more, for a key node.
 fn with_own(
     s: &[u8],
     p: usize,
-    path: [u8; 16],
+    path: &[u8],
     d: usize,
     n: usize,
     rows: &mut [u8],
     vals: &mut [u32],
     keys: &mut [u8],
 ) -> Gathered
-    requires { ⌜ Room n (now rows) (now vals) (now keys) × ((length (now s) ≡ recordSize) × ((p < 256) × (d ≤ 16))) ⌝ }
-    ensures { λ r. ⌜ (rowsOf r (columns (now (rows .exit)) (now (vals .exit)) (now (keys .exit))) ≡ withOwn (take d path) (valueOf (poolIn (now (s .entry))) p) (rowsFrom (columns (now (rows .entry)) (now (vals .entry)) (now (keys .entry))) 0 n)) × Within r ⌝ }
+    requires { ⌜ Room n (now rows) (now vals) (now keys) × ((length (now s) ≡ recordSize) × ((p < 256) × ((d ≤ 16) × (length (now path) ≡ 16)))) ⌝ }
+    ensures { λ r. ⌜ (rowsOf r (columns (now (rows .exit)) (now (vals .exit)) (now (keys .exit))) ≡ withOwn (take d (now (path .entry))) (valueOf (poolIn (now (s .entry))) p) (rowsFrom (columns (now (rows .entry)) (now (vals .entry)) (now (keys .entry))) 0 n)) × Within r ⌝ }
 {
     if radix_bytes::key_at(s, p) == 0 {
         return Gathered::Rows(n);
@@ -49,37 +47,45 @@ fn with_own(
     Gathered::Rows(n + 1)
 }
 
-// The rows from n on: the entries of the node that a link leads to, of what lies below it, and of its later siblings.
+// The rows from n on: the entries of the nodes of which a link leads to the first, each with those below it. The path keeps the d bytes that
+// lead there.
 pub fn gather(
     s: &[u8],
     left: usize,
     link: usize,
-    path: [u8; 16],
+    path: &mut [u8],
     d: usize,
     n: usize,
     rows: &mut [u8],
     vals: &mut [u32],
     keys: &mut [u8],
 ) -> Gathered
-    requires { ⌜ Room n (now rows) (now vals) (now keys) × ((length (now s) ≡ recordSize) × (d ≤ 16)) ⌝ }
-    ensures { λ r. ⌜ (rowsOf r (columns (now (rows .exit)) (now (vals .exit)) (now (keys .exit))) ≡ gathered (take d path) (treeAt left (poolIn (now (s .entry))) link) (rowsFrom (columns (now (rows .entry)) (now (vals .entry)) (now (keys .entry))) 0 n)) × Within r ⌝ }
+    requires { ⌜ Room n (now rows) (now vals) (now keys) × ((length (now s) ≡ recordSize) × ((d ≤ 16) × (length (now path) ≡ 16))) ⌝ }
+    ensures { λ r. ⌜ (rowsOf r (columns (now (rows .exit)) (now (vals .exit)) (now (keys .exit))) ≡ gathered (take d (now (path .entry))) (treeAt left (poolIn (now (s .entry))) link) (rowsFrom (columns (now (rows .entry)) (now (vals .entry)) (now (keys .entry))) 0 n)) × (Within r × (take d (now (path .exit)) ≡ take d (now (path .entry)))) ⌝ }
 {
-    if !radix::leads(left, link) {
-        return Gathered::Rows(n);
+    let mut rest = left;
+    let mut at = link;
+    let mut k = n;
+    while radix::leads(rest, at) {
+        let p = at - 1;
+        let m = radix_bytes::label_len(s, p);
+        if 16 < d + m {
+            return Gathered::TooMany;
+        }
+        extend(path, d, s, p, m);
+        let Gathered::Rows(e) = with_own(s, p, path, d + m, k, rows, vals, keys) else {
+            return Gathered::TooMany;
+        };
+        rest -= 1;
+        at = radix_bytes::next_at(s, p);
+        k = e;
+        let below = radix_bytes::child_at(s, p);
+        if below != 0 {
+            let Gathered::Rows(f) = gather(s, rest, below, path, d + m, e, rows, vals, keys) else {
+                return Gathered::TooMany;
+            };
+            k = f;
+        }
     }
-    let p = link - 1;
-    let m = radix_bytes::label_len(s, p);
-    if 16 < d + m {
-        return Gathered::TooMany;
-    }
-    let here = extended(path, d, s, p, m);
-    let Gathered::Rows(e) = with_own(s, p, here, d + m, n, rows, vals, keys) else {
-        return Gathered::TooMany;
-    };
-    let below = radix_bytes::child_at(s, p);
-    let Gathered::Rows(k) = gather(s, left - 1, below, here, d + m, e, rows, vals, keys) else {
-        return Gathered::TooMany;
-    };
-    let later = radix_bytes::next_at(s, p);
-    gather(s, left - 1, later, path, d, k, rows, vals, keys)
+    Gathered::Rows(k)
 }

@@ -36,7 +36,8 @@ pub fn table_of(s: &[u8]) -> Listed
     let mut len = [0u8; 64];
     let mut val = [0u32; 64];
     let mut key = [0u8; 1024];
-    let Gathered::Rows(n) = gather(s, 256, first, [0; 16], 0, 0, &mut len, &mut val, &mut key)
+    let mut path = [0u8; 16];
+    let Gathered::Rows(n) = gather(s, 256, first, &mut path, 0, 0, &mut len, &mut val, &mut key)
     else {
         return unlisted();
     };

@@ -9,7 +9,7 @@ use Rattle.octets.specs.Bytes.{zeros}
 use Rattle.keys.specs.Answer.{padded}
 use Rattle.keys.specs.Entries.{Entry, entry}
 use Rattle.radix.specs.Shape.{Shape, nil, node}
-use Rattle.radix.specs.Record.{Nodes, lent, treeAt}
+use Rattle.radix.specs.Record.{Nodes, treeAt}
 use Rattle.radix.specs.Walk.{leastIn, greatestIn, firstIn, lastIn}
 use Rattle.radix_walk.specs.declared.near.Near.{Near}
 use Rattle.radix_walk.specs.declared.near.Stop.{Stop}
@@ -41,16 +41,16 @@ leastFrom x k s = leastIn (take (s .lead) k) (treeAt (s .left) x (s .at))
 unfoldable pub greatestFrom : Nodes → List ℕ → Stop → Option Entry
 greatestFrom x k s = greatestIn (take (s .lead) k) (alone (treeAt (s .left) x (s .at)))
 
--- the walk of k from a link on stopped at s; values, and flags of keys for the first, have no part in where
-pub record StopsAbove (len child next label : List ℕ) (first : ℕ) (k : List ℕ) (s : Stop) : Type 0 where
+-- the walk of k from a link on stopped at s
+pub record StopsAbove (x : Nodes) (first : ℕ) (k : List ℕ) (s : Stop) : Type 0 where
   pub lead : s .lead ≤ length k
-  pub least : (key val : List ℕ) → leastFrom (lent len key child next val label) k s ≡ firstIn [] (treeAt 256 (lent len key child next val label) first) k
+  pub least : leastFrom x k s ≡ firstIn [] (treeAt 256 x first) k
 
-pub record StopsBelow (len key child next label : List ℕ) (first : ℕ) (k : List ℕ) (s : Stop) : Type 0 where
+pub record StopsBelow (x : Nodes) (first : ℕ) (k : List ℕ) (s : Stop) : Type 0 where
   pub lead : s .lead ≤ length k
-  pub greatest : (val : List ℕ) → greatestFrom (lent len key child next val label) k s ≡ lastIn [] (treeAt 256 (lent len key child next val label) first) k
+  pub greatest : greatestFrom x k s ≡ lastIn [] (treeAt 256 x first) k
 
 -- the last of the siblings that a link leads to
-pub record LastOf (next : List ℕ) (left link : ℕ) (s : Stop) : Type 0 where
+pub record LastOf (x : Nodes) (left link : ℕ) (s : Stop) : Type 0 where
   pub within : s .left ≤ left
-  pub last : (x : Nodes) → x .next ≡ next → (before : List ℕ) → greatestIn before (treeAt left x link) ≡ greatestIn before (alone (treeAt (s .left) x (s .at)))
+  pub last : (before : List ℕ) → greatestIn before (treeAt left x link) ≡ greatestIn before (alone (treeAt (s .left) x (s .at)))

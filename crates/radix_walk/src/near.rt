@@ -11,8 +11,9 @@ ghost use Rattle.octets.specs.Pick.{pick};
 ghost use Rattle.octets.specs.Place.{area};
 ghost use Rattle.octets.specs.Compare.{orderOf};
 ghost use Rattle.keys.specs.Entries.{entry};
-ghost use Rattle.radix.specs.Record.{leadsOn, lent, treeAt};
+ghost use Rattle.radix.specs.Record.{leadsOn, valueOf, treeAt};
 ghost use Rattle.radix.specs.Walk.{ownOf, firstIn, lastIn};
+ghost use Rattle.radix_bytes.specs.Bytes.{recordSize, poolIn};
 ghost use Rattle.radix_walk.specs.Neighbours.{nearOf, cutKey, stopAt, leastFrom, greatestFrom, StopsAbove, StopsBelow, LastOf};
 use octets::Order;
 
@@ -41,12 +42,12 @@ fn lesser(a: usize, b: usize) -> usize
 }
 
 // A label beside as many bytes of the key from i on.
-fn side<'a>(label: &'a [u8], at: usize, n: usize, k: &'a [u8], i: usize) -> Order
-    requires { ⌜ (at + n ≤ length (now label)) × (i ≤ length (now k)) ⌝ }
-    ensures { λ r. ⌜ r ≡ orderOf (area at n (now (label .entry))) (area i n (now (k .entry))) ⌝ }
+fn side(s: &[u8], at: usize, n: usize, k: &[u8], i: usize) -> Order
+    requires { ⌜ (at + n ≤ length (now s)) × (i ≤ length (now k)) ⌝ }
+    ensures { λ r. ⌜ r ≡ orderOf (area at n (now (s .entry))) (area i n (now (k .entry))) ⌝ }
 {
     let m = lesser(n, k.len() - i);
-    octets::compare(&label[at..at + n], &k[i..i + m])
+    octets::compare(&s[at..at + n], &k[i..i + m])
 }
 
 // The later siblings, if there are any, stand next above.
@@ -60,16 +61,9 @@ fn nearer(s: Stop, at: usize, lead: usize, left: usize) -> Stop
 }
 
 // The walk along the key's path, to where the first key at or above it is the first.
-fn stop_above<'a>(
-    len: &'a [u8; 256],
-    child: &'a [u16; 256],
-    next: &'a [u16; 256],
-    label: &'a [u8],
-    first: usize,
-    k: &'a [u8],
-) -> Stop
-    requires { ⌜ length (now label) ≡ 4096 ⌝ }
-    ensures { λ r. ⌜ StopsAbove (now (len .entry)) (now (child .entry)) (now (next .entry)) (now (label .entry)) first (now (k .entry)) r ⌝ }
+fn stop_above(s: &[u8], first: usize, k: &[u8]) -> Stop
+    requires { ⌜ length (now s) ≡ recordSize ⌝ }
+    ensures { λ r. ⌜ StopsAbove (poolIn (now (s .entry))) first (now (k .entry)) r ⌝ }
 {
     let mut at = first;
     let mut i = 0;
@@ -81,10 +75,10 @@ fn stop_above<'a>(
     };
     while radix::leads(left, at) {
         let p = at - 1;
-        let n = radix::label_len(len, p);
-        match side(label, 16 * p, n, k, i) {
+        let n = radix_bytes::label_len(s, p);
+        match side(s, 2562 + 16 * p, n, k, i) {
             Order::Less => {
-                at = radix::link_at(next, p);
+                at = radix_bytes::next_at(s, p);
                 left -= 1;
             }
             Order::Equal => {
@@ -92,9 +86,9 @@ fn stop_above<'a>(
                     return Stop { at, lead: i, left };
                 }
                 left -= 1;
-                stop = nearer(stop, radix::link_at(next, p), i, left);
+                stop = nearer(stop, radix_bytes::next_at(s, p), i, left);
                 i += n;
-                at = radix::link_at(child, p);
+                at = radix_bytes::child_at(s, p);
             }
             Order::Greater => return Stop { at, lead: i, left },
         }
@@ -103,28 +97,20 @@ fn stop_above<'a>(
 }
 
 // A key node on the key's path stands last before, by itself.
-fn own_stop(key: &[u8; 256], s: Stop, at: usize, lead: usize) -> Stop
-    requires { ⌜ (0 < at) × (at ≤ 256) ⌝ }
-    ensures { λ r. ⌜ r ≡ pick (eqb (getD (now (key .entry)) (at - 1) 0) 0) s (stopAt at lead 1) ⌝ }
+fn own_stop(s: &[u8], before: Stop, at: usize, lead: usize) -> Stop
+    requires { ⌜ (length (now s) ≡ recordSize) × ((0 < at) × (at ≤ 256)) ⌝ }
+    ensures { λ r. ⌜ r ≡ pick (eqb (getD (poolIn (now (s .entry)) .key) (at - 1) 0) 0) before (stopAt at lead 1) ⌝ }
 {
-    if radix::byte_at(key, at - 1) == 0 {
-        return s;
+    if radix_bytes::key_at(s, at - 1) == 0 {
+        return before;
     }
     Stop { at, lead, left: 1 }
 }
 
 // The walk along the key's path, to where the last key at or below it is the last.
-fn stop_below<'a>(
-    len: &'a [u8; 256],
-    key: &'a [u8; 256],
-    child: &'a [u16; 256],
-    next: &'a [u16; 256],
-    label: &'a [u8],
-    first: usize,
-    k: &'a [u8],
-) -> Stop
-    requires { ⌜ length (now label) ≡ 4096 ⌝ }
-    ensures { λ r. ⌜ StopsBelow (now (len .entry)) (now (key .entry)) (now (child .entry)) (now (next .entry)) (now (label .entry)) first (now (k .entry)) r ⌝ }
+fn stop_below(s: &[u8], first: usize, k: &[u8]) -> Stop
+    requires { ⌜ length (now s) ≡ recordSize ⌝ }
+    ensures { λ r. ⌜ StopsBelow (poolIn (now (s .entry))) first (now (k .entry)) r ⌝ }
 {
     let mut at = first;
     let mut i = 0;
@@ -136,17 +122,17 @@ fn stop_below<'a>(
     };
     while radix::leads(left, at) {
         let p = at - 1;
-        let n = radix::label_len(len, p);
-        match side(label, 16 * p, n, k, i) {
+        let n = radix_bytes::label_len(s, p);
+        match side(s, 2562 + 16 * p, n, k, i) {
             Order::Less => {
                 stop = Stop { at, lead: i, left };
-                at = radix::link_at(next, p);
+                at = radix_bytes::next_at(s, p);
                 left -= 1;
             }
             Order::Equal => {
-                stop = own_stop(key, stop, at, i);
+                stop = own_stop(s, stop, at, i);
                 i += n;
-                at = radix::link_at(child, p);
+                at = radix_bytes::child_at(s, p);
                 left -= 1;
             }
             Order::Greater => return stop,
@@ -191,59 +177,46 @@ fn entry_of(path: &[u8], n: usize, value: u32) -> Near
 }
 
 // The entry of a key node.
-fn own_entry<'a>(
-    key: &'a [u8; 256],
-    val: &'a [u32; 256],
-    p: usize,
-    path: &'a [u8],
-    n: usize,
-) -> Near
-    requires { ⌜ (p < 256) × (length (now path) ≡ 16) × (n ≤ 16) ⌝ }
-    ensures { λ r. ⌜ r ≡ nearOf (ownOf (take n (now (path .entry))) (pick (eqb (getD (now (key .entry)) p 0) 0) none (some (getD (now (val .entry)) p 0)))) ⌝ }
+fn own_entry(s: &[u8], p: usize, path: &[u8], n: usize) -> Near
+    requires { ⌜ (length (now s) ≡ recordSize) × ((p < 256) × (length (now path) ≡ 16) × (n ≤ 16)) ⌝ }
+    ensures { λ r. ⌜ r ≡ nearOf (ownOf (take n (now (path .entry))) (valueOf (poolIn (now (s .entry))) p)) ⌝ }
 {
-    if radix::byte_at(key, p) == 0 {
+    if radix_bytes::key_at(s, p) == 0 {
         return nothing();
     }
-    entry_of(path, n, radix::word_at(val, p))
+    entry_of(path, n, radix_bytes::value_at(s, p))
 }
 
 // Down by first children to a key node.
-fn least<'a>(
-    len: &'a [u8; 256],
-    key: &'a [u8; 256],
-    child: &'a [u16; 256],
-    val: &'a [u32; 256],
-    label: &'a [u8],
-    s: Stop,
-    k: &'a [u8],
-) -> Near
-    requires { ⌜ (length (now label) ≡ 4096) × (s .lead ≤ length (now k)) ⌝ }
-    ensures { λ r. ⌜ ((next : List ℕ) → r ≡ nearOf (cutKey (leastFrom (lent (now (len .entry)) (now (key .entry)) (now (child .entry)) next (now (val .entry)) (now (label .entry))) (now (k .entry)) s))) ⌝ }
+fn least(s: &[u8], from: Stop, k: &[u8]) -> Near
+    requires { ⌜ (length (now s) ≡ recordSize) × (from .lead ≤ length (now k)) ⌝ }
+    ensures { λ r. ⌜ r ≡ nearOf (cutKey (leastFrom (poolIn (now (s .entry))) (now (k .entry)) from)) ⌝ }
 {
     let mut path = [0u8; 16];
-    let mut n = laid(&mut path, 0, k, 0, s.lead);
-    let mut at = s.at;
-    let mut left = s.left;
+    let mut n = laid(&mut path, 0, k, 0, from.lead);
+    let mut at = from.at;
+    let mut left = from.left;
     while radix::leads(left, at) {
         let p = at - 1;
-        n = laid(&mut path, n, label, 16 * p, radix::label_len(len, p));
-        if radix::byte_at(key, p) != 0 {
-            return entry_of(&path, n, radix::word_at(val, p));
+        n = laid(&mut path, n, s, 2562 + 16 * p, radix_bytes::label_len(s, p));
+        if radix_bytes::key_at(s, p) != 0 {
+            return entry_of(&path, n, radix_bytes::value_at(s, p));
         }
-        at = radix::link_at(child, p);
+        at = radix_bytes::child_at(s, p);
         left -= 1;
     }
     nothing()
 }
 
 // The last of the siblings that a link leads to.
-fn last_of(next: &[u16; 256], left: usize, link: usize) -> Stop
-    ensures { λ r. ⌜ LastOf (now (next .entry)) left link r ⌝ }
+fn last_of(s: &[u8], left: usize, link: usize) -> Stop
+    requires { ⌜ length (now s) ≡ recordSize ⌝ }
+    ensures { λ r. ⌜ LastOf (poolIn (now (s .entry))) left link r ⌝ }
 {
     let mut at = link;
     let mut rest = left;
     while radix::leads(rest, at) {
-        let later = radix::link_at(next, at - 1);
+        let later = radix_bytes::next_at(s, at - 1);
         if !radix::leads(rest - 1, later) {
             return Stop {
                 at,
@@ -262,31 +235,22 @@ fn last_of(next: &[u16; 256], left: usize, link: usize) -> Stop
 }
 
 // Down by last children to a node that has none.
-fn greatest<'a>(
-    len: &'a [u8; 256],
-    key: &'a [u8; 256],
-    child: &'a [u16; 256],
-    next: &'a [u16; 256],
-    val: &'a [u32; 256],
-    label: &'a [u8],
-    s: Stop,
-    k: &'a [u8],
-) -> Near
-    requires { ⌜ (length (now label) ≡ 4096) × (s .lead ≤ length (now k)) ⌝ }
-    ensures { λ r. ⌜ r ≡ nearOf (cutKey (greatestFrom (lent (now (len .entry)) (now (key .entry)) (now (child .entry)) (now (next .entry)) (now (val .entry)) (now (label .entry))) (now (k .entry)) s)) ⌝ }
+fn greatest(s: &[u8], from: Stop, k: &[u8]) -> Near
+    requires { ⌜ (length (now s) ≡ recordSize) × (from .lead ≤ length (now k)) ⌝ }
+    ensures { λ r. ⌜ r ≡ nearOf (cutKey (greatestFrom (poolIn (now (s .entry))) (now (k .entry)) from)) ⌝ }
 {
     let mut path = [0u8; 16];
-    let mut n = laid(&mut path, 0, k, 0, s.lead);
-    let mut at = s.at;
-    let mut left = s.left;
+    let mut n = laid(&mut path, 0, k, 0, from.lead);
+    let mut at = from.at;
+    let mut left = from.left;
     while radix::leads(left, at) {
         let p = at - 1;
-        n = laid(&mut path, n, label, 16 * p, radix::label_len(len, p));
-        let below = radix::link_at(child, p);
+        n = laid(&mut path, n, s, 2562 + 16 * p, radix_bytes::label_len(s, p));
+        let below = radix_bytes::child_at(s, p);
         if !radix::leads(left - 1, below) {
-            return own_entry(key, val, p, &path, n);
+            return own_entry(s, p, &path, n);
         }
-        let last = last_of(next, left - 1, below);
+        let last = last_of(s, left - 1, below);
         at = last.at;
         left = last.left;
     }
@@ -294,35 +258,19 @@ fn greatest<'a>(
 }
 
 // The first key at or above k in the tree that a link leads to.
-pub fn first_from<'a>(
-    len: &'a [u8; 256],
-    key: &'a [u8; 256],
-    child: &'a [u16; 256],
-    next: &'a [u16; 256],
-    val: &'a [u32; 256],
-    label: &'a [u8; 4096],
-    first: usize,
-    k: &'a [u8],
-) -> Near
-    ensures { λ r. ⌜ r ≡ nearOf (cutKey (firstIn [] (treeAt 256 (lent (now (len .entry)) (now (key .entry)) (now (child .entry)) (now (next .entry)) (now (val .entry)) (now (label .entry))) first) (now (k .entry)))) ⌝ }
+pub fn first_from(s: &[u8], first: usize, k: &[u8]) -> Near
+    requires { ⌜ length (now s) ≡ recordSize ⌝ }
+    ensures { λ r. ⌜ r ≡ nearOf (cutKey (firstIn [] (treeAt 256 (poolIn (now (s .entry))) first) (now (k .entry)))) ⌝ }
 {
-    let s = stop_above(len, child, next, label, first, k);
-    least(len, key, child, val, label, s, k)
+    let stop = stop_above(s, first, k);
+    least(s, stop, k)
 }
 
 // The last key at or below k.
-pub fn last_from<'a>(
-    len: &'a [u8; 256],
-    key: &'a [u8; 256],
-    child: &'a [u16; 256],
-    next: &'a [u16; 256],
-    val: &'a [u32; 256],
-    label: &'a [u8; 4096],
-    first: usize,
-    k: &'a [u8],
-) -> Near
-    ensures { λ r. ⌜ r ≡ nearOf (cutKey (lastIn [] (treeAt 256 (lent (now (len .entry)) (now (key .entry)) (now (child .entry)) (now (next .entry)) (now (val .entry)) (now (label .entry))) first) (now (k .entry)))) ⌝ }
+pub fn last_from(s: &[u8], first: usize, k: &[u8]) -> Near
+    requires { ⌜ length (now s) ≡ recordSize ⌝ }
+    ensures { λ r. ⌜ r ≡ nearOf (cutKey (lastIn [] (treeAt 256 (poolIn (now (s .entry))) first) (now (k .entry)))) ⌝ }
 {
-    let s = stop_below(len, key, child, next, label, first, k);
-    greatest(len, key, child, next, val, label, s, k)
+    let stop = stop_below(s, first, k);
+    greatest(s, stop, k)
 }

@@ -10,8 +10,7 @@ use Rattle.radix.specs.Record.{treeAt}
 use Rattle.radix.specs.Walk.{findIn}
 use Rattle.radix.proofs.Laws.{tree-end, tree-nil, tree-out, Turn, find-none, find-next, find-own, find-below, find-fits}
 use Rattle.radix_bytes.specs.Bytes.{poolIn}
-use Rattle.radix_bytes.proofs.Laws.{label-size}
-use Rattle.radix_find.proofs.Labelled.{label-in}
+use Rattle.radix_bytes.proofs.Laws.{label-in, label-size}
 use Rattle.radix_find.proofs.find_from.Statement.{statement}
 use Rattle.radix_find.proofs.find_from.Tie as tie
 

@@ -1,5 +1,5 @@
 -- `table_of` meets its contract. Assumes nothing.
-use mathlib.Core.Path.{_≡_, refl, sym, ap, _∙_, subst}
+use mathlib.Core.Path.{refl, sym, ap, _∙_, subst}
 use native.Mathlib.Omega.{arith}
 use borrow.Author.Needs.{needs}
 use lib.ListN.{replicate}
@@ -20,9 +20,10 @@ table-of-spec =
     (λ c. search needs)
     (λ c. search needs)
     (λ c. search needs)
+    (λ c. search needs)
     (λ c κs. search needs)
     (λ c. search needs)
     (λ c. search needs)
     (λ c κs. search needs)
-    (λ c. lists-none _ (c .unlisted .result) (sym (ap (λ (r : Gathered). rowsOf r (columns (c.before.before.before.before.before.before .gather .last .1 .1 .1 .1 .1 .1 .0) (c.before.before.before.before.before.before .gather .last .1 .1 .1 .1 .1 .1 .1 .0) (c.before.before.before.before.before.before .gather .last .1 .1 .1 .1 .1 .1 .1 .1 .0))) (c.before .enum-told .given .1)) ∙ tree-listed (recordFrom (c.before.before.before.before.before.before.before.before.before.before.before.before.before .args .s .now)) (c.before.before.before.before.before.before.before.before.before.before.before .root-of .result) (c.before.before.before.before.before.before.before.before.before.before .child-at .result) (rowsOf (c.before.before.before.before.before.before .gather .result) (columns (c.before.before.before.before.before.before .gather .last .1 .1 .1 .1 .1 .1 .0) (c.before.before.before.before.before.before .gather .last .1 .1 .1 .1 .1 .1 .1 .0) (c.before.before.before.before.before.before .gather .last .1 .1 .1 .1 .1 .1 .1 .1 .0))) (columns (replicate 64 0) (replicate 64 0) (replicate 1024 0)) (c.before.before.before.before.before.before.before.before.before.before.before .root-of .ensures .0) (c.before.before.before.before.before.before.before.before.before.before .child-at .ensures .0) (c.before.before.before.before.before.before .gather .ensures .0)) (c .unlisted .ensures))
-    (λ c. lists-some _ _ (sym (ap (λ (r : Gathered). rowsOf r (columns (c.before.before.before.before.before.before .gather .last .1 .1 .1 .1 .1 .1 .0) (c.before.before.before.before.before.before .gather .last .1 .1 .1 .1 .1 .1 .1 .0) (c.before.before.before.before.before.before .gather .last .1 .1 .1 .1 .1 .1 .1 .1 .0))) (c.before .n .given .1)) ∙ tree-listed (recordFrom (c.before.before.before.before.before.before.before.before.before.before.before.before.before .args .s .now)) (c.before.before.before.before.before.before.before.before.before.before.before .root-of .result) (c.before.before.before.before.before.before.before.before.before.before .child-at .result) (rowsOf (c.before.before.before.before.before.before .gather .result) (columns (c.before.before.before.before.before.before .gather .last .1 .1 .1 .1 .1 .1 .0) (c.before.before.before.before.before.before .gather .last .1 .1 .1 .1 .1 .1 .1 .0) (c.before.before.before.before.before.before .gather .last .1 .1 .1 .1 .1 .1 .1 .1 .0))) (columns (replicate 64 0) (replicate 64 0) (replicate 1024 0)) (c.before.before.before.before.before.before.before.before.before.before.before .root-of .ensures .0) (c.before.before.before.before.before.before.before.before.before.before .child-at .ensures .0) (c.before.before.before.before.before.before .gather .ensures .0)) refl (subst Within (c.before .n .given .1) (c.before.before.before.before.before.before .gather .ensures .1))))
+    (λ c. lists-none _ (c .unlisted .result) (sym (ap (λ (r : Gathered). rowsOf r (columns (c.before.before.before.before.before.before.before .gather .last .1 .1 .1 .1 .1 .1 .0) (c.before.before.before.before.before.before.before .gather .last .1 .1 .1 .1 .1 .1 .1 .0) (c.before.before.before.before.before.before.before .gather .last .1 .1 .1 .1 .1 .1 .1 .1 .0))) (c.before .enum-told .given .1)) ∙ tree-listed (recordFrom (c.before.before.before.before.before.before.before.before.before.before.before.before.before.before.before .args .s .now)) (c.before.before.before.before.before.before.before.before.before.before.before.before.before .root-of .result) (c.before.before.before.before.before.before.before.before.before.before.before.before .child-at .result) (rowsOf (c.before.before.before.before.before.before.before .gather .result) (columns (c.before.before.before.before.before.before.before .gather .last .1 .1 .1 .1 .1 .1 .0) (c.before.before.before.before.before.before.before .gather .last .1 .1 .1 .1 .1 .1 .1 .0) (c.before.before.before.before.before.before.before .gather .last .1 .1 .1 .1 .1 .1 .1 .1 .0))) (columns (replicate 64 0) (replicate 64 0) (replicate 1024 0)) (c.before.before.before.before.before.before.before.before.before.before.before.before.before .root-of .ensures .0) (c.before.before.before.before.before.before.before.before.before.before.before.before .child-at .ensures .0) (c.before.before.before.before.before.before.before .gather .ensures .0)) (c .unlisted .ensures))
+    (λ c. lists-some _ _ (sym (ap (λ (r : Gathered). rowsOf r (columns (c.before.before.before.before.before.before.before .gather .last .1 .1 .1 .1 .1 .1 .0) (c.before.before.before.before.before.before.before .gather .last .1 .1 .1 .1 .1 .1 .1 .0) (c.before.before.before.before.before.before.before .gather .last .1 .1 .1 .1 .1 .1 .1 .1 .0))) (c.before .n .given .1)) ∙ tree-listed (recordFrom (c.before.before.before.before.before.before.before.before.before.before.before.before.before.before.before .args .s .now)) (c.before.before.before.before.before.before.before.before.before.before.before.before.before .root-of .result) (c.before.before.before.before.before.before.before.before.before.before.before.before .child-at .result) (rowsOf (c.before.before.before.before.before.before.before .gather .result) (columns (c.before.before.before.before.before.before.before .gather .last .1 .1 .1 .1 .1 .1 .0) (c.before.before.before.before.before.before.before .gather .last .1 .1 .1 .1 .1 .1 .1 .0) (c.before.before.before.before.before.before.before .gather .last .1 .1 .1 .1 .1 .1 .1 .1 .0))) (columns (replicate 64 0) (replicate 64 0) (replicate 1024 0)) (c.before.before.before.before.before.before.before.before.before.before.before.before.before .root-of .ensures .0) (c.before.before.before.before.before.before.before.before.before.before.before.before .child-at .ensures .0) (c.before.before.before.before.before.before.before .gather .ensures .0)) refl (subst Within (c.before .n .given .1) (c.before.before.before.before.before.before.before .gather .ensures .1 .0))))

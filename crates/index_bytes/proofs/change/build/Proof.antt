@@ -1,8 +1,6 @@
 -- `build` meets its contract. Assumes nothing.
-use mathlib.Core.Path.{ap, _∙_}
 use borrow.Author.Needs.{needs}
 use Rattle.keys.specs.Table.{tabled}
-use Rattle.radix.specs.Record.{entriesOf}
 use Rattle.radix.proofs.Laws.{record-back}
 use Rattle.index_bytes.proofs.Settling.{written}
 use Rattle.index_bytes.proofs.change.build.Statement.{statement}
@@ -13,10 +11,8 @@ build-spec =
     tie.close
     (tie.spec
     (λ c κs. search needs)
-    (λ c κs. search needs)
     (λ c. search needs)
     (λ c.
-    let x = c.before.before.before.before .build in
-    let s = c.before.before.before.before.before.before in
-    let w = c.before.before .to-bytes in
-    written (tabled (s .args .t)) (w .last .1 .0) (x .result) (x .ensures) (ap entriesOf (x .ensures) ∙ record-back (tabled (s .args .t)) (s .pre .0)) (w .ensures)))
+    let s = c.before.before.before.before.before in
+    let w = c.before.before .build in
+    written (tabled (s .args .t)) (w .last .1 .0) (record-back (tabled (s .args .t)) (s .pre .0)) (w .ensures)))

@@ -27,7 +27,7 @@ use Rattle.radix.proofs.construction.link_over.Reads as link-over-reads
 use Rattle.radix.proofs.construction.own_row.Reads as own-row-reads
 use Rattle.radix.proofs.construction.put_node.Reads as put-node-reads
 use Rattle.radix.proofs.construction.stretch_of.Reads as stretch-of-reads
-use Rattle.radix.proofs.pool.wide.Reads as wide-reads
+use Rattle.radix.proofs.construction.wide.Reads as wide-reads
 use Rattle.radix.proofs.construction.+grow.{statement}
 use Rattle.radix.proofs.construction.+grow.Tie.{close}
 

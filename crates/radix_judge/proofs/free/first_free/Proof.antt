@@ -19,10 +19,11 @@ pub first-free-spec : {M : Type 1} → statement M
 first-free-spec =
     tie.close
     (tie.spec Inv-loop μ-loop
-    (λ c. (omega arith, λ x. refl))
-    (λ c. omega arith)
+    (λ c κs. search needs)
+    (λ c. c .marked-words .ensures)
+    (λ c. omega (arith, c.before.before.before.before.before .pre))
     (λ c. (omega arith, c.before.before.before .loop .inv .1))
     (λ c. omega arith)
     (λ c. omega arith)
-    (λ c. let m = c.before.before.before.before .args .marks .now in let p = c.before.before.before .loop .p in (omega arith, λ x. free-go x m p _ (omega arith) (free-marked x m p (c .if1 .left)) refl ∙ c.before.before.before .loop .inv .1 x))
+    (λ c. let m = c.before.before.before.before.before.before .args .marks .now in let p = c.before.before.before .loop .p in (omega arith, λ x. free-go x m p _ (omega arith) (free-marked x m p (c .if1 .left)) refl ∙ c.before.before.before .loop .inv .1 x))
     (λ c. c.before .loop .inv))

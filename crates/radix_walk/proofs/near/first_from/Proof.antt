@@ -13,6 +13,4 @@ first-from-spec =
     (tie.spec
     (λ c κs. search needs)
     (λ c κs. search needs)
-    (λ c.
-    let x = c.before.before.before.before.before .args in
-    c .least .ensures (x .next .now) ∙ ap (λ (o : Option Entry). nearOf (cutKey o)) (c.before.before .stop-above .ensures .least (x .key .now) (x .val .now))))
+    (λ c. c .least .ensures ∙ ap (λ (o : Option Entry). nearOf (cutKey o)) (c.before .stop-above .ensures .least)))

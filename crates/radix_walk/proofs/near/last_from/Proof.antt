@@ -13,4 +13,4 @@ last-from-spec =
     (tie.spec
     (λ c κs. search needs)
     (λ c κs. search needs)
-    (λ c. c .greatest .ensures ∙ ap (λ (o : Option Entry). nearOf (cutKey o)) (c.before.before .stop-below .ensures .greatest (c.before.before.before.before.before .args .val .now))))
+    (λ c. c .greatest .ensures ∙ ap (λ (o : Option Entry). nearOf (cutKey o)) (c.before .stop-below .ensures .greatest)))

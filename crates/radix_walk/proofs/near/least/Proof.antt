@@ -1,12 +1,14 @@
 -- `least` meets its contract: what is left to go down answers what the whole way does. Assumes nothing.
 use mathlib.Core.Bool.{true}
 use mathlib.Core.Path.{_≡_, refl, sym, ap, _∙_}
-use mathlib.Core.List.{List}
-use Prim.Native.Nat.{ℕ, _≤_, _<_}
+use mathlib.Core.List.{List, _++_}
+use Prim.Native.Nat.{ℕ, _-_, _≤_, _<_}
 use native.Mathlib.Omega.{arith}
 use borrow.Author.Needs.{needs}
 use lib.ListN.{length, take}
-use Rattle.radix.specs.Record.{Nodes, lent, leadsOn, treeAt}
+use Rattle.radix.specs.Record.{Nodes, leadsOn, treeAt}
+use Rattle.radix_bytes.specs.Bytes.{poolIn}
+use Rattle.radix_bytes.proofs.Laws.{label-in}
 use Rattle.radix.specs.Walk.{leastIn}
 use Rattle.radix_walk.specs.Neighbours.{nearOf, cutKey, leastFrom}
 use Rattle.radix.proofs.Laws.{leads-to}
@@ -15,16 +17,16 @@ use Rattle.radix_walk.proofs.near.least.Statement.{statement}
 use Rattle.radix_walk.proofs.near.least.Tie as tie
 
 abbrev Inv-loop : tie.InvT-loop
-Inv-loop len key child val label k path₀ n₀ at₀ left₀ path n at left =
+Inv-loop s k path₀ n₀ at₀ left₀ path n at left =
     (length path ≡ 16)
     × (n ≤ 16)
-    × ((next : List ℕ) → cutKey (leastIn (take n path) (treeAt left (lent len key child next val label) at)) ≡ cutKey (leastIn (take n₀ path₀) (treeAt left₀ (lent len key child next val label) at₀)))
+    × (cutKey (leastIn (take n path) (treeAt left (poolIn s) at)) ≡ cutKey (leastIn (take n₀ path₀) (treeAt left₀ (poolIn s) at₀)))
 
 abbrev μ-loop : tie.MeasureT-loop
-μ-loop len key child val label k path₀ n₀ at₀ left₀ path n at left = left
+μ-loop s k path₀ n₀ at₀ left₀ path n at left = left
 
-abbrev pool : tie.Start Inv-loop μ-loop → List ℕ → Nodes
-pool s next = let x = s .args in lent (x .len .now) (x .key .now) (x .child .now) next (x .val .now) (x .label .now)
+abbrev pool : tie.Start Inv-loop μ-loop → Nodes
+pool s = poolIn (s .args .s .now)
 
 on : (c : tie.Then1 Inv-loop μ-loop) → leadsOn (c.before.before .loop .left) (c.before.before .loop .at) ≡ true
 on c = sym (c.before .leads .ensures) ∙ c .if1 .taken
@@ -32,13 +34,19 @@ on c = sym (c.before .leads .ensures) ∙ c .if1 .taken
 up : (c : tie.Then1 Inv-loop μ-loop) → (0 < c.before.before .loop .left) × (0 < c.before.before .loop .at) × (c.before.before .loop .at ≤ 256)
 up c = leads-to (c.before.before .loop .left) (c.before.before .loop .at) (on c)
 
-down : (c : tie.After-laid2 Inv-loop μ-loop) (next : List ℕ)
-    → Down (pool c.before.before.before.before.before.before.before.before.before.before.before next) (c.before.before.before.before.before .loop .left) (c.before.before.before.before.before .loop .at) (c.before .label-len .result) (take (c.before.before.before.before.before .loop .n) (c.before.before.before.before.before .loop .path)) (take (c .laid2 .result) (c .laid2 .last .0))
-down c next = record { on = on c.before.before.before; bytes = c.before .label-len .ensures .0; laid = c .laid2 .ensures .1 }
+down : (c : tie.After-laid2 Inv-loop μ-loop)
+    → Down (pool c.before.before.before.before.before.before.before.before.before.before.before) (c.before.before.before.before.before .loop .left) (c.before.before.before.before.before .loop .at) (c.before .label-len .result) (take (c.before.before.before.before.before .loop .n) (c.before.before.before.before.before .loop .path)) (take (c .laid2 .result) (c .laid2 .last .0))
+down c =
+    let l = c.before.before.before.before.before .loop in
+    record {
+      on = on c.before.before.before;
+      bytes = c.before .label-len .ensures .0;
+      laid = c .laid2 .ensures .1 ∙ ap (λ (y : List ℕ). take 16 (take (l .n) (l .path) ++ y)) (label-in (c.before.before.before.before.before.before.before.before.before.before.before .args .s .now) (l .at - 1) (c.before .label-len .result) (omega (arith, up c.before.before.before)) (c.before .label-len .ensures .1));
+    }
 
-whole : (c : tie.At-loop Inv-loop μ-loop) (next : List ℕ)
-    → cutKey (leastIn (take (c .loop .n) (c .loop .path)) (treeAt (c .loop .left) (pool c.before.before.before.before.before.before next) (c .loop .at))) ≡ cutKey (leastFrom (pool c.before.before.before.before.before.before next) (c.before.before.before.before.before.before .args .k .now) (c.before.before.before.before.before.before .args .s))
-whole c next = c .loop .inv .2 next ∙ least-start (pool c.before.before.before.before.before.before next) (c.before.before.before.before.before.before .args .k .now) (c.before.before.before.before.before.before .args .s) (take (c.before.before .laid .result) (c.before.before .laid .last .0)) (c.before.before .laid .ensures .1)
+whole : (c : tie.At-loop Inv-loop μ-loop)
+    → cutKey (leastIn (take (c .loop .n) (c .loop .path)) (treeAt (c .loop .left) (pool c.before.before.before.before.before.before) (c .loop .at))) ≡ cutKey (leastFrom (pool c.before.before.before.before.before.before) (c.before.before.before.before.before.before .args .k .now) (c.before.before.before.before.before.before .args .from))
+whole c = c .loop .inv .2 ∙ least-start (pool c.before.before.before.before.before.before) (c.before.before.before.before.before.before .args .k .now) (c.before.before.before.before.before.before .args .from) (take (c.before.before .laid .result) (c.before.before .laid .last .0)) (c.before.before .laid .ensures .1)
 
 long : (c : tie.After-laid2 Inv-loop μ-loop) → length (c .laid2 .last .0) ≡ 16
 long c = c .laid2 .kept .0 ∙ c.before.before.before.before.before .loop .inv .0
@@ -49,26 +57,27 @@ least-spec =
     (tie.spec Inv-loop μ-loop
     (λ c. refl)
     (λ c κs. omega arith)
-    (λ c. (c.before .laid .kept .0, c.before .laid .ensures .0, λ next. refl))
+    (λ c. (c.before .laid .kept .0, c.before .laid .ensures .0, refl))
     (λ c κs. search needs)
     (λ c. omega (arith, up c))
     (λ c. sym (c.before.before.before .loop .inv .0))
     (λ c. omega (arith, up c.before))
-    (λ c κs. omega (arith, up c.before))
+    (λ c. omega (arith, up c.before))
+    (λ c κs. (c.before.before.before.before.before.before.before.before.before .pre .0, omega (arith, up c.before)))
     (λ c κs. omega (arith, up c.before.before, c.before.before.before.before.before.before.before.before.before.before .pre))
-    (λ c κs. omega (arith, up c.before.before.before.before))
+    (λ c κs. (c.before.before.before.before.before.before.before.before.before.before.before.before .pre .0, omega (arith, up c.before.before.before.before)))
     (λ c. sym (long c.before.before.before.before))
-    (λ c κs. omega (arith, up c.before.before.before.before.before.before.before))
+    (λ c κs. (c.before.before.before.before.before.before.before.before.before.before.before.before.before.before.before .pre .0, omega (arith, up c.before.before.before.before.before.before.before)))
     (λ c κs. (long c.before.before.before.before.before, c.before.before.before.before.before .laid2 .ensures .0))
-    (λ c next.
+    (λ c.
     c .entry-of .ensures
-    ∙ ap nearOf (least-own (down c.before.before.before.before.before.before next) (c.before .word-at .result) (λ z. c.before.before.before .if2 .taken (c.before.before.before.before .byte-at .ensures .0 ∙ z)) (c.before .word-at .ensures .0) ∙ whole c.before.before.before.before.before.before.before.before.before.before.before next))
-    (λ c κs. omega (arith, up c.before.before.before.before.before.before))
+    ∙ ap nearOf (least-own (down c.before.before.before.before.before.before) (c.before .value-at .result) (λ z. c.before.before.before .if2 .taken (c.before.before.before.before .key-at .ensures .0 ∙ z)) (c.before .value-at .ensures .0) ∙ whole c.before.before.before.before.before.before.before.before.before.before.before))
+    (λ c κs. (c.before.before.before.before.before.before.before.before.before.before.before.before.before.before .pre .0, omega (arith, up c.before.before.before.before.before.before)))
     (λ c. omega (arith, up c.before.before.before.before.before.before.before))
     (λ c. omega (arith, up c.before.before.before.before.before.before.before))
     (λ c.
-    (long c.before.before.before.before, c.before.before.before.before .laid2 .ensures .0, λ next. least-below (down c.before.before.before.before next) (c .link-at .result) (sym (c.before.before .byte-at .ensures .0) ∙ c.before .if2 .left) (c .link-at .ensures .0) ∙ c.before.before.before.before.before.before.before.before.before .loop .inv .2 next))
+    (long c.before.before.before.before, c.before.before.before.before .laid2 .ensures .0, least-below (down c.before.before.before.before) (c .child-at .result) (sym (c.before.before .key-at .ensures .0) ∙ c.before .if2 .left) (c .child-at .ensures .0) ∙ c.before.before.before.before.before.before.before.before.before .loop .inv .2))
     (λ c κs. search needs)
-    (λ c next.
+    (λ c.
     let l = c.before.before.before .loop in
-    c .nothing .ensures ∙ ap nearOf (least-end (pool c.before.before.before.before.before.before.before.before.before next) (take (l .n) (l .path)) (l .left) (l .at) (sym (c.before.before .leads .ensures) ∙ c.before .if1 .left) ∙ whole c.before.before.before next)))
+    c .nothing .ensures ∙ ap nearOf (least-end (pool c.before.before.before.before.before.before.before.before.before) (take (l .n) (l .path)) (l .left) (l .at) (sym (c.before.before .leads .ensures) ∙ c.before .if1 .left) ∙ whole c.before.before.before)))

@@ -10,7 +10,7 @@ own-entry-spec =
     (tie.spec
     (λ c κs. search needs)
     (λ c κs. search needs)
-    (λ c. rw (← c.before.before .byte-at .ensures .0, c.before .if1 .taken) (c .nothing .ensures))
+    (λ c. rw (← c.before.before .key-at .ensures .0, c.before .if1 .taken) (c .nothing .ensures))
     (λ c κs. search needs)
     (λ c κs. search needs)
-    (λ c. rw (← c.before.before.before .byte-at .ensures .0, ne-eqb _ _ (c.before.before .if1 .left), ← c.before .word-at .ensures .0) (c .entry-of .ensures)))
+    (λ c. rw (← c.before.before.before .key-at .ensures .0, ne-eqb _ _ (c.before.before .if1 .left), ← c.before .value-at .ensures .0) (c .entry-of .ensures)))

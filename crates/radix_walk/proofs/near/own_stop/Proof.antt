@@ -10,5 +10,5 @@ own-stop-spec =
     (tie.spec
     (λ c. search needs)
     (λ c κs. search needs)
-    (λ c. rw (← c.before .byte-at .ensures .0, c .if1 .taken))
-    (λ c. rw (← c.before .byte-at .ensures .0, ne-eqb _ _ (c .if1 .left))))
+    (λ c. rw (← c.before .key-at .ensures .0, c .if1 .taken))
+    (λ c. rw (← c.before .key-at .ensures .0, ne-eqb _ _ (c .if1 .left))))

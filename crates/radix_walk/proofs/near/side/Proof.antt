@@ -31,5 +31,5 @@ side-spec =
     let e : x .at + x .n - x .at ≡ x .n = omega arith in
     let f : x .i + m - x .i ≡ m = omega arith in
     c .compare .ensures
-    ∙ ap₂ orderOf (ap (λ (j : ℕ). take j (drop (x .at) (x .label .now))) e ∙ part-area (x .at) (x .n) (x .label .now))
+    ∙ ap₂ orderOf (ap (λ (j : ℕ). take j (drop (x .at) (x .s .now))) e ∙ part-area (x .at) (x .n) (x .s .now))
     (ap (λ (j : ℕ). take j (drop (x .i) (x .k .now))) (f ∙ c.before.before.before .lesser .ensures) ∙ part-short (x .i) (x .n) (x .k .now))))
