@@ -44,7 +44,6 @@ use Rattle.groups.specs.Step as Groups
 use Rattle.stream.specs.Cut as Cut
 use Rattle.stream.specs.Image.{nodeOf, nodesOf, freeZero, imageFrom}
 use Rattle.stream.specs.Ledger.{messagesAbove, isLedger}
-use Rattle.stream.specs.LedgerStep as LedgerStep
 use Rattle.stream.specs.LedgerStep.{onSetUp, addAs, clockId, onTrim, onCreate}
 use Rattle.groups.specs.Answer.{lacksConsumer}
 use Rattle.stream.specs.Run.{run, answers}
@@ -208,7 +207,7 @@ refusals =
 -- a message that fills more than half of a node
 pub half : ℕ → Message
 unfolding wide
-half ms = LedgerStep.message (idOf ms 0) (wide 3)
+half ms = record { id = idOf ms 0; pairs = wide 3 }
 
 abbrev adds : ℕ → Asked
 adds ms = asked (Command.add (idOf ms 0) (slip (half ms .pairs))) (Command.given (idOf ms 0))
