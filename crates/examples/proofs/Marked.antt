@@ -1,11 +1,10 @@
 -- The cases that 01 marks with *, proved together: the definitions write these bytes, and read them back. Assumes nothing.
 use mathlib.Core.Path.{_≡_, refl}
 use mathlib.Core.List.{List, [], _∷_, map}
-use mathlib.Core.Option.{Option, some}
-use Prim.Native.Nat.{ℕ}
+use mathlib.Core.Option.{some}
 use Rattle.octets.specs.Bytes.{le, leValue, be, beFrom, beValue}
 use Rattle.octets.specs.Place.{area, takeBytes}
-use Rattle.octets.specs.Compare.{same, allZero, orderOf}
+use Rattle.octets.specs.Compare.{same, allZero}
 use Rattle.id.specs.Id.{idOrder}
 use Rattle.id.specs.Bytes.{idBytes, idFrom}
 use Rattle.id.specs.Difference.{differenceOf, rebuiltOf}
@@ -19,13 +18,13 @@ use Rattle.node.specs.Message.{live, areStrings, arePairs, isMessage, sameStrin
 use Rattle.node.specs.Bytes.{masterStrings, pairStrings, entryStrings, entriesStrings, nodeStrings, nodeBytes, nodeSize, slotOf}
 use Rattle.node.specs.Rules.{risingFrom, areMessages, isNode}
 use Rattle.node.specs.Parse.{readNumber, readExactly, readStrings, readValues, readPairs, readEntry, readEntries, parseStrings, parseNode, parseSlot}
-use Rattle.groups.specs.Group.{risingNames, namesAbove, areNames}
+use Rattle.groups.specs.Group.{risingNames}
 use Rattle.groups.specs.Area.{areGroups, isGroups}
 use Rattle.stream.specs.Ledger.{emptyLedger, messagesAbove, isLedger}
 use Rattle.stream.specs.Cut.{addAll, freshCut}
 use Rattle.snapshot.specs.Bytes.{partsOf, contents, bodies, fileOf, snapshotOf}
-use Rattle.snapshot.specs.Parse.{takeParts, parseFile, readNode, readParts, parseSnapshot}
-use Rattle.examples.specs.Case.{Case, string, listpack, node, snapshot, bytesOf, readIn, Row, row, message}
+use Rattle.snapshot.specs.Parse.{takeParts, parseFile, readParts, parseSnapshot}
+use Rattle.examples.specs.Case.{string, listpack, node, snapshot, bytesOf, readIn, Row, row, message}
 
 pub table : List Row
 table =

@@ -1,5 +1,5 @@
 -- More examples computed: nodes, a snapshot with a group, a group's region, an image and a run of commands. Assumes nothing.
-use mathlib.Core.Bool.{Bool, true, false}
+use mathlib.Core.Bool.{false}
 use mathlib.Core.Path.{_≡_, refl}
 use mathlib.Core.List.{List, [], _∷_, _++_, map}
 use mathlib.Core.Option.{Option, some, none}
@@ -14,7 +14,7 @@ use Rattle.groups.specs.Group.{Group, Pending}
 use Rattle.stream.specs.Ledger.{Ledger, emptyLedger, withMessages, withLast, withGroups}
 use Rattle.stream.specs.Command as Command
 use Rattle.snapshot.specs.Command.{Command, onStream, save, load, runAll, answersAll}
-use Rattle.examples.specs.Case.{Case, string, listpack, node, snapshot, bytesOf, readIn, Row, row, message}
+use Rattle.examples.specs.Case.{Case, listpack, node, snapshot, bytesOf, readIn, Row, row, message}
 use Rattle.node.specs.Message.{areStrings, arePairs}
 use Rattle.slip.specs.Slip.{slipPairs, slip, cutString, parsePairs, parseSlip}
 use Rattle.octets.specs.Bytes.{le, leValue, be, beFrom, beValue}

@@ -1,13 +1,12 @@
 -- What a byte example is about, which bytes the definitions give it, and what they read in them. Assumes nothing.
 use mathlib.Core.List.{List, [], _∷_}
-use mathlib.Core.Option.{Option, some, none, Option·map}
+use mathlib.Core.Option.{Option, Option·map}
 use Prim.Native.Nat.{ℕ}
-use lib.ListN.{length}
 use Rattle.id.specs.Id.{idOf}
 use Rattle.listpack.specs.Element.{element}
 use Rattle.listpack.specs.Listpack as Listpack
 use Rattle.listpack.specs.Read.{parse, Parsed, parseListpack}
-use Rattle.node.specs.Message.{Message, Entry, pair, live}
+use Rattle.node.specs.Message.{Message, Entry, pair}
 use Rattle.node.specs.Bytes.{keyOf, nodeBytes, slotOf}
 use Rattle.node.specs.Parse.{parseSlot}
 use Rattle.stream.specs.Ledger.{Ledger}

@@ -10,7 +10,6 @@ use lib.ListN.{length, drop, getD, drop-of-length-le}
 use lib.Seq.{drop-at, drop-drop, drop-cons, getD-append-add}
 use borrow.Author.Tests.{ltb-true, ltb-false}
 use Rattle.octets.specs.Bytes.{zeros}
-use Rattle.octets.specs.Place.{area}
 use Rattle.octets.specs.Compare.{orderOf}
 use Rattle.octets.specs.declared.Order.the-variants.{Less, Equal, Greater}
 use Rattle.id.specs.declared.Id.{Id}

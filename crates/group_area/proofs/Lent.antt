@@ -1,15 +1,14 @@
 -- What a caller of the area knows: when it is sound, the region that it may lend on, and what becomes of the others. Assumes nothing.
 use mathlib.Core.Path.{_≡_, refl, sym, ap, _∙_, subst}
 use mathlib.Core.Bool.{true, not}
-use mathlib.Core.List.{List, [], _∷_, _++_}
+use mathlib.Core.List.{List, []}
 use mathlib.Core.Option.{Option, some, none}
-use Prim.Native.Nat.{ℕ, _+_, _-_, _*_, _≤_, _<_}
+use Prim.Native.Nat.{ℕ, _-_, _*_, _<_}
 use native.Mathlib.Omega.{arith}
 use lib.ListN.{length}
 use Rattle.octets.specs.Maybe.{isNone}
 use Rattle.octets.specs.Bytes.{Bytes}
 use Rattle.octets.specs.Place.{area, put}
-use Rattle.octets.specs.Compare.{same}
 use Rattle.id.specs.declared.Id.{Id}
 use Rattle.id.specs.Id.{greatest}
 use Rattle.groups.specs.declared.Spot.{Spot}

@@ -1,5 +1,5 @@
 -- Names in rising order: no two are one, so a name has one place. Assumes nothing.
-use mathlib.Core.Path.{_≡_, refl, sym, ap, subst}
+use mathlib.Core.Path.{_≡_, refl, sym}
 use mathlib.Core.Bool.{Bool, true, false}
 use mathlib.Core.List.{List, [], _∷_}
 use Prim.Native.Nat.{ℕ, zero, suc, _+_, _≤_, _<_}
@@ -10,9 +10,9 @@ use lib.ListN.{length, getD}
 use borrow.Author.Tests.{leb-true, le-leb}
 use Rattle.octets.specs.Pick.{pick, both}
 use Rattle.octets.specs.Bytes.{Bytes}
-use Rattle.octets.specs.Compare.{same, orderOf, isLess, comesBefore}
+use Rattle.octets.specs.Compare.{same, orderOf, comesBefore}
 use Rattle.octets.specs.declared.Order.the-variants.{Less}
-use Rattle.octets.proofs.Laws.{both-true, order-refl, order-trans, same-refl, same-true, both-of, never, are-bytes, bytes-are, is-less, before-trans, before-differs}
+use Rattle.octets.proofs.Laws.{both-true, same-refl, same-true, both-of, never, are-bytes, bytes-are, is-less, before-trans, before-differs}
 use Rattle.groups.specs.Group.{isName, areNames, namesAbove, risingNames, isAmong}
 use Rattle.groups.specs.Bytes.{placeOf}
 

@@ -1,16 +1,15 @@
 -- A consumer dropped: its entries first, then the consumer. Assumes nothing.
 use mathlib.Core.Path.{_≡_, refl, sym, _∙_}
 use mathlib.Core.Bool.{Bool, true, false}
-use mathlib.Core.List.{List, [], _∷_, _++_}
-use Prim.Native.Nat.{ℕ, _+_, _-_, _*_, _≤_, _<_}
+use mathlib.Core.List.{List, [], _∷_}
+use Prim.Native.Nat.{ℕ, _-_}
 use native.Mathlib.Omega.{arith}
-use lib.ListN.{drop}
 use Rattle.octets.specs.Pick.{pick}
 use Rattle.octets.specs.Compare.{same}
 use Rattle.id.specs.Id.{least, atMost}
 use Rattle.groups.specs.Group.{Pending, Group, isPending}
 use Rattle.groups.specs.Step.{pendingOf, pendingOfOthers, dropConsumer}
-use Rattle.groups.proofs.Laws.{Rules, rules, Within, all-within, above-within, length-within, up-to-all, entries-all}
+use Rattle.groups.proofs.Laws.{Rules, Within, all-within, above-within, length-within, up-to-all, entries-all}
 use Rattle.groups_change.specs.Change.{withPending, withoutConsumer}
 
 -- fewer entries keep the rules

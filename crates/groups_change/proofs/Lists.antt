@@ -6,7 +6,7 @@ use native.Mathlib.Omega.{arith}
 use lib.ListN.{length, take, drop, length-append}
 use lib.Seq.{take-at, drop-append-add}
 use Rattle.octets.specs.Bytes.{zeros}
-use Rattle.octets.specs.Place.{area, put, spliced, splicedEnd}
+use Rattle.octets.specs.Place.{area, spliced, splicedEnd}
 use Rattle.octets.proofs.Laws.{area-middle}
 
 pub spliced-at : (x e y t new : List ℕ) (used at gone : ℕ) → length x ≡ at → length e ≡ gone → used ≡ at + gone + length y

@@ -1,5 +1,5 @@
 -- What each definition of the reader says at each answer of the code. Assumes nothing.
-use mathlib.Core.Path.{_≡_, refl, sym, ap, _∙_}
+use mathlib.Core.Path.{_≡_, refl, sym, _∙_}
 use mathlib.Core.Bool.{Bool, true, false}
 use mathlib.Core.List.{List}
 use mathlib.Core.Option.{Option, some, none}
@@ -7,7 +7,7 @@ use Prim.Native.Nat.{ℕ, suc, _+_, _-_, _*_, _/_, _%_, _≤_, _<_}
 use native.Mathlib.Numerals.{add-one}
 use native.Mathlib.Omega.{arith}
 use lib.Dec.{eqb}
-use lib.ListN.{length, getD, take, drop, length-take, length-drop}
+use lib.ListN.{length, getD, length-take, length-drop}
 use lib.Seq.{drop-cons}
 use borrow.Author.Tests.{lt-ltb, le-ltb, eq-eqb, ne-eqb}
 use Rattle.octets.specs.Bytes.{leValue}
@@ -23,7 +23,7 @@ use Rattle.listpack.specs.Width.{extend, halfOf}
 use Rattle.listpack.specs.Element.{integerBody, textHead, backLength}
 use Rattle.listpack.specs.Read.{backAt, integerStands, asInteger, closeInteger, textStands, asText, closeText, tagWidth, readWide, readBy, readElement}
 use Rattle.listpack.specs.declared.Element.the-variants.{Integer, Text, Bad}
-use Rattle.octets.proofs.Laws.{pick-eq, pick-same}
+use Rattle.octets.proofs.Laws.{pick-same}
 use Rattle.listpack.proofs.Forms.{back-size}
 
 pub pick-self : (t : Bool) → pick t true false ≡ t

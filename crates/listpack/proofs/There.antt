@@ -1,30 +1,28 @@
 -- An element that is there, by its first bytes alone. Assumes nothing.
 use mathlib.Core.Path.{_≡_, refl, sym, ap, ap₂, _∙_, subst}
 use mathlib.Core.Bool.{Bool, true, false, not}
-use mathlib.Core.List.{List, [], _∷_}
-use mathlib.Core.Option.{Option, some, none}
+use mathlib.Core.List.{List}
 use Prim.Native.Nat.{ℕ, zero, suc, _+_, _-_, _*_, _^_, _≤_, _<_}
 use native.Mathlib.Omega.{arith}
 use lib.Dec.{ltb, eqb}
 use lib.ListN.{length, getD, take, drop, length-drop}
 use lib.Seq.{getD-drop, drop-drop}
-use borrow.Author.Tests.{lt-ltb, le-ltb, eq-eqb, ne-eqb, ltb-true, ltb-false, eqb-true, eqb-false}
-use Rattle.octets.specs.Pick.{pick, both}
+use borrow.Author.Tests.{lt-ltb, le-ltb, eq-eqb, ltb-false, eqb-true, eqb-false}
+use Rattle.octets.specs.Pick.{pick}
 use Rattle.octets.specs.Bytes.{Bytes, leValue}
 use Rattle.octets.specs.Place.{area}
 use Rattle.octets.specs.Maybe.{isNone}
 use Rattle.octets.proofs.Laws.{both-true, bytes-drop, area-drop, length-area, never, pick-by}
 use Rattle.decimal.specs.Text.{textOf}
-use Rattle.decimal.proofs.Laws.{text-length}
 use Rattle.listpack.specs.Width.{extend, halfOf}
 use Rattle.listpack.specs.Element.{backLength}
-use Rattle.listpack.specs.Read.{Parsed, parse, parsedBy, asInteger, closeInteger, integerStands, asText, closeText, textStands, tagWidth, readWide, readBy, readElement}
+use Rattle.listpack.specs.Read.{parse, asInteger, closeInteger, integerStands, asText, closeText, textStands, tagWidth, readWide, readBy, readElement}
 use Rattle.listpack.specs.Cursor.{sizeOf}
-use Rattle.listpack.specs.Known.{ElementAt, ElementsAt, stringBy, stringAt, patternIn, sizeAt, patternAt, afterAt, endAt, areThere}
+use Rattle.listpack.specs.Known.{ElementAt, stringBy, stringAt, patternIn, sizeAt, patternAt, afterAt, endAt, areThere}
 use Rattle.listpack.specs.declared.Element.{Element}
 use Rattle.listpack.specs.declared.Element.the-variants.{Integer, Text, Bad}
 use Rattle.listpack.proofs.Sound.{Sound, sound}
-use Rattle.listpack.proofs.Strings.{Exact, exact, parse-by}
+use Rattle.listpack.proofs.Strings.{parse-by}
 use Rattle.listpack.proofs.Leaves.{tag-16, tag-24, tag-32, tag-64, tag-none}
 use Rattle.listpack.proofs.Walks.{size-within}
 

@@ -2,7 +2,7 @@
 
 ghost use mathlib.Core.Path.{_≡_};
 ghost use Prim.Native.Nat.{_≤_, _<_};
-ghost use lib.ListN.{length, getD, drop};
+ghost use lib.ListN.{getD, drop};
 ghost use Rattle.octets.specs.Compare.{same};
 ghost use Rattle.listpack.specs.Read.{readElement};
 ghost use Rattle.listpack.specs.Known.{ElementAt, ElementsAt, stringAt, sizeAt, patternAt, endAt};

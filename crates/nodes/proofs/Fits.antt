@@ -11,7 +11,7 @@ use Rattle.octets.specs.Pick.{pick}
 use Rattle.slip.specs.Slip.{slip}
 use Rattle.node.specs.Message.{Message}
 use Rattle.node_read.specs.Answer.{readingBy}
-use Rattle.node_read.specs.declared.reading.Reading.the-variants.{Length, Short, Missing}
+use Rattle.node_read.specs.declared.reading.Reading.the-variants.{Length, Short}
 
 pub reading-fits : (room n : ℕ) (o : Option Message) → readingBy room o ≡ Length n → n ≤ room
 reading-fits room n none e = absurd (let z : _≡_ {A = ℕ} 0 1 = cc in omega arith)

@@ -1,6 +1,6 @@
 -- The keys of a record whose labels are bytes are bytes. Assumes nothing.
 use mathlib.Core.Bool.{Bool, true, false}
-use mathlib.Core.List.{List, [], _∷_, _++_}
+use mathlib.Core.List.{List, _++_}
 use mathlib.Core.Option.{Option, some, none}
 use Prim.Native.Nat.{ℕ, zero, suc, _*_}
 use lib.Dec.{ltb}
@@ -11,7 +11,7 @@ use Rattle.octets.proofs.Laws.{bytes-area, bytes-append}
 use Rattle.keys.specs.Table.{lengthOf}
 use Rattle.keys.proofs.Laws.{Keys, keys-append}
 use Rattle.radix.specs.Shape.{Shape, nil, node, ownEntry, entriesIn}
-use Rattle.radix.specs.Record.{Nodes, labelOf, valueOf, nodeAt, treeAt}
+use Rattle.radix.specs.Record.{Nodes, labelOf, valueOf, treeAt}
 
 abbrev LabelBytes : Shape → Type 0
 LabelBytes nil = Unit {0}

@@ -6,8 +6,8 @@ use native.Mathlib.Omega.{arith}
 use borrow.Author.Tests.{ne-eqb, le-leb, lt-leb}
 use lib.ListN.{length, getD}
 use Rattle.octets.proofs.Laws.{length-area}
-use Rattle.radix.specs.Shape.{node, firstByte}
-use Rattle.radix.specs.Canon.{isNil, areSeveral, isOnly, isOneOf, rules}
+use Rattle.radix.specs.Shape.{firstByte}
+use Rattle.radix.specs.Canon.{isNil, areSeveral, isOnly, isOneOf}
 use Rattle.radix.specs.Record.{Nodes, leadsOn, labelOf, valueOf, treeAt}
 use Rattle.keys.specs.Table.{lengthOf}
 use Rattle.radix.proofs.Turns.{leads-to, nil-leads, tree-not, tree-node}

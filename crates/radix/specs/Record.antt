@@ -52,11 +52,6 @@ abbrev pub lent : List ℕ → List ℕ → List ℕ → List ℕ → List ℕ �
 lent len key child next val label =
     record { len = len; key = key; child = child; next = next; val = val; label = label }
 
--- a record of a pool, its root at place 0
-abbrev pub rooted : Nodes → Index
-rooted x =
-    record { root = 0; len = x .len; key = x .key; child = x .child; next = x .next; val = x .val; label = x .label }
-
 abbrev pub labelOf : Nodes → ℕ → List ℕ
 labelOf x p = area (16 * p) (lengthOf (x .len) p) (x .label)
 

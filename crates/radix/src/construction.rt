@@ -1,7 +1,7 @@
 // A record made of the rows of a table: the shape of its keys, laid into the pool.
 
 ghost use mathlib.Core.Path.{_≡_};
-ghost use mathlib.Core.Bool.{Bool, true};
+ghost use mathlib.Core.Bool.{true};
 ghost use Prim.Native.Nat.{_+_, _*_, _-_, _<_, _≤_};
 ghost use lib.Dec.{eqb};
 ghost use lib.ListN.{length, getD};
@@ -9,8 +9,8 @@ ghost use Rattle.octets.specs.Pick.{pick, both};
 ghost use Rattle.octets.specs.Place.{area};
 ghost use Rattle.radix.specs.Shape.{common, nodes};
 ghost use Rattle.keys.specs.Table.{lengthOf, columns, tabled};
-ghost use Rattle.radix.specs.Record.{lent, rooted};
-ghost use Rattle.radix.specs.Layout.{withCell, sprout, laid, blank, recordOf};
+ghost use Rattle.radix.specs.Record.{lent};
+ghost use Rattle.radix.specs.Layout.{withCell, sprout, laid, blank, recordOf, rooted};
 ghost use Rattle.radix.specs.Rows.{alikeAt, shareAt, restAt, Ready};
 ghost use Rattle.keys.specs.Entries.{isMap};
 use keys::Table;

@@ -9,8 +9,8 @@ ghost use Rattle.octets.specs.Bytes.{le};
 ghost use Rattle.octets.specs.Place.{area, put};
 ghost use Rattle.keys.specs.Entries.{isMap};
 ghost use Rattle.keys.specs.Table.{tabled};
-ghost use Rattle.radix.specs.Record.{lent, rooted};
-ghost use Rattle.radix.specs.Layout.{recordOf};
+ghost use Rattle.radix.specs.Record.{lent};
+ghost use Rattle.radix.specs.Layout.{recordOf, rooted};
 ghost use Rattle.radix_bytes.specs.Bytes.{recordSize, wordBytes, bytesOf, recordFrom, Fit};
 use keys::Table;
 

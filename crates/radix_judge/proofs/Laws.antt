@@ -16,7 +16,7 @@ use Rattle.keys.specs.Entries.{Entry}
 use Rattle.keys.specs.Listing.{IsSound}
 use Rattle.radix.specs.Shape.{Shape}
 use Rattle.radix.specs.Canon.{canonical}
-use Rattle.radix.specs.Record.{Nodes, nodesOf, treeOf, isFree, isTidy, isPlace, isRoot, areClean, marksFrom, marksOf, areFit, isPlaced, entriesOf, entries-is}
+use Rattle.radix.specs.Record.{Nodes, nodesOf, treeOf, isFree, isTidy, isPlace, isRoot, areClean, marksOf, areFit, isPlaced, entriesOf, entries-is}
 use Rattle.radix.specs.Gathering.{gathered}
 use Rattle.radix.specs.declared.Index.{Index}
 use Rattle.radix.proofs.Laws.{holds, is-gathered, shape-gathered, shape-canonical}

@@ -11,7 +11,7 @@ use lib.Dec.{leb, ltb, eqb}
 use lib.ListN.{length, getD, set, length-append, length-set}
 use lib.Seq.{getD-set-same, getD-set-other}
 use Rattle.octets.specs.Pick.{pick, both}
-use Rattle.octets.specs.Maybe.{need, _>>_, _>>=_}
+use Rattle.octets.specs.Maybe.{_>>_, _>>=_}
 use Rattle.octets.proofs.Laws.{both-true, both-of, needed, answered, some-is, length-area}
 use Rattle.keys.specs.Entries.{Entry, entry}
 use Rattle.keys.specs.Table.{lengthOf}

@@ -11,7 +11,7 @@ use borrow.Author.Tests.{eqb-true}
 use Rattle.octets.specs.Pick.{both}
 use Rattle.octets.specs.Bytes.{Bytes}
 use Rattle.octets.proofs.Laws.{both-true, bytes-tail}
-use Rattle.slip.specs.Pair.{Pair, pair, isString, areStrings, isPairCount, arePairs}
+use Rattle.slip.specs.Pair.{Pair, isString, areStrings, isPairCount, arePairs}
 use Rattle.slip.specs.Slip.{slipString, slipPairs, slip, cutString, parsePairs, parseSlip}
 use Rattle.octets.proofs.Laws.{needed, answered, some-is}
 use Rattle.slip.proofs.Strings.{is-string, cut-string, string-cut, cut-rules}

@@ -9,7 +9,7 @@ use native.Mathlib.Omega.{arith}
 use lib.ListN.{length, drop, length-append}
 use Rattle.octets.specs.Place.{area}
 use Rattle.octets.proofs.Laws.{length-area}
-use Rattle.slip.specs.Pair.{Pair, pair, isPairCount}
+use Rattle.slip.specs.Pair.{Pair, isPairCount}
 use Rattle.slip.specs.Slip.{slipString, slipPairs, slip, parsePairs, parseSlip}
 use Rattle.slip.specs.Answer.{isSlip, pairsBy, pairsIn, lengthAt, cursor, pairsAt, stepOf}
 use Rattle.slip.specs.declared.SlipCursor.{SlipCursor}

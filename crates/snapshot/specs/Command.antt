@@ -1,7 +1,7 @@
 -- Every command of 01, save and load among them, on what a store and its state hold: a model, or none where they are the image of
 -- none. Assumes nothing.
 use mathlib.Core.Bool.{Bool, true, false}
-use mathlib.Core.List.{List, []}
+use mathlib.Core.List.{List}
 use mathlib.Core.Option.{Option, some, none}
 use Prim.Native.Nat.{ℕ}
 use lib.Dec.{leb, eqb}

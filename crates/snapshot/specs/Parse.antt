@@ -8,7 +8,7 @@ use lib.ListN.{length, drop, getD}
 use Rattle.octets.specs.Pick.{pick}
 use Rattle.octets.specs.Maybe.{_>>=_, _>>_, need}
 use Rattle.octets.specs.Bytes.{leValue}
-use Rattle.octets.specs.Place.{area, Taken, takeBytes}
+use Rattle.octets.specs.Place.{area, takeBytes}
 use Rattle.octets.specs.Compare.{same}
 use Rattle.id.specs.Bytes.{idFrom}
 use Rattle.node.specs.Message.{Message, liveIn}

@@ -1,12 +1,11 @@
 // Consumer groups.
 
-ghost use mathlib.Core.Path.{_≡_};
 ghost use mathlib.Core.List.{[], _∷_};
 ghost use Rattle.id.specs.Id.{idOf};
 ghost use Rattle.stream.specs.Command.{createGroup, destroyGroup, inGroup, groupRead, acknowledge, claim, nextPending, dropConsumer};
 ghost use Rattle.stream.specs.Promise.{lent};
 ghost use Rattle.wallathi.specs.Export.{seen};
-ghost use Rattle.wallathi.specs.Run.{call, plain, Meets};
+ghost use Rattle.wallathi.specs.Run.{plain, Meets};
 use crate::telling;
 use id::Id;
 

@@ -6,7 +6,7 @@ ghost use Rattle.id.specs.Id.{idOf};
 ghost use Rattle.stream.specs.Command.{setUp, add, addByClock, delete, trim};
 ghost use Rattle.stream.specs.Promise.{lent};
 ghost use Rattle.wallathi.specs.Export.{seen};
-ghost use Rattle.wallathi.specs.Run.{call, plain, Meets};
+ghost use Rattle.wallathi.specs.Run.{plain, Meets};
 ghost use Rattle.state.specs.Layout.{stateSize};
 use crate::telling;
 use id::Id;

@@ -1,6 +1,5 @@
 // What is asked of the messages: next, read, field.
 
-ghost use mathlib.Core.Path.{_≡_};
 ghost use mathlib.Core.List.{[], _∷_};
 ghost use Rattle.id.specs.Id.{idOf};
 ghost use Rattle.stream.specs.Command.{asks, next, read, field};

@@ -1,6 +1,5 @@
 // The snapshot of what a store holds, and a store made of one.
 
-ghost use mathlib.Core.Path.{_≡_};
 ghost use mathlib.Core.List.{[], _∷_};
 ghost use Rattle.stream.specs.Promise.{lent};
 ghost use Rattle.snapshot.specs.Command.{save, load};

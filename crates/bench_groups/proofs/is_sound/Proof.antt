@@ -1,5 +1,5 @@
 -- `is_sound` meets its contract. Assumes nothing.
-use mathlib.Core.Path.{_≡_, sym, ap, _∙_}
+use mathlib.Core.Path.{sym, ap, _∙_}
 use borrow.Author.Needs.{needs}
 use Rattle.bench_groups.specs.Answer.{isSound}
 use Rattle.bench_groups.proofs.Answers.{judged-in}

@@ -1,6 +1,4 @@
 -- `is_sound` meets its contract. Assumes nothing.
-use mathlib.Core.Path.{_≡_, _∙_}
-use native.Mathlib.Omega.{arith}
 use borrow.Author.Needs.{needs}
 use borrow.Author.Tests.{not-true, not-false}
 use Rattle.radix_bytes.specs.Bytes.{recordFrom}

@@ -1,6 +1,5 @@
 -- `show::hex` is safe and ends: the place is at most the length, and what is left falls. Assumes nothing.
 use Prim.Native.Nat.{_≤_, _-_}
-use native.Mathlib.Omega.{arith}
 use lib.ListN.{length}
 use borrow.Author.Needs.{needs}
 use Rattle.show.proofs.hex.Statement.{statement}

@@ -1,7 +1,6 @@
 -- `rows` is safe and ends: there are at most 64 rows, and what is left of them falls. Assumes nothing.
 use mathlib.Core.Path.{_≡_}
 use Prim.Native.Nat.{_-_, _≤_}
-use native.Mathlib.Omega.{arith}
 use borrow.Author.Needs.{needs}
 use lib.ListN.{length}
 use Rattle.commanding.proofs.showing.rows.Statement.{statement}

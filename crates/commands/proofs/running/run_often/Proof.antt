@@ -1,7 +1,6 @@
 -- `run_often` is safe and ends: the state keeps its length, and the number of times that are left falls. Assumes nothing.
 use mathlib.Core.Path.{_≡_}
 use Prim.Native.Nat.{_-_, _≤_, _<_}
-use native.Mathlib.Omega.{arith}
 use borrow.Author.Needs.{needs}
 use lib.ListN.{length}
 use Rattle.state.specs.Layout.{stateSize}

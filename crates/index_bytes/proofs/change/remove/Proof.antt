@@ -2,7 +2,6 @@
 use borrow.Author.Needs.{needs}
 use borrow.Author.Tests.{not-true, not-false}
 use Rattle.keys.specs.Operation.{remove}
-use Rattle.keys.specs.Answer.{replyOf}
 use Rattle.keys.specs.Table.{tabled}
 use Rattle.index_bytes.proofs.Steps.{changes-2, some-listed, changes-some}
 use Rattle.index_bytes.proofs.change.remove.Statement.{statement}

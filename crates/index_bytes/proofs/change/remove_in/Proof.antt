@@ -1,11 +1,8 @@
 -- `remove_in` meets its contract. Assumes nothing.
-use mathlib.Core.Bool.{true}
-use mathlib.Core.Path.{_≡_, sym, ap, _∙_}
-use Prim.Native.Nat.{_^_, _<_, _≤_}
+use mathlib.Core.Path.{sym, ap, _∙_}
 use native.Mathlib.Omega.{arith}
 use borrow.Author.Needs.{needs}
 use borrow.Author.Tests.{not-true, not-false}
-use lib.ListN.{length}
 use Rattle.keys.specs.Entries.{isMap}
 use Rattle.keys.specs.Table.{columns, tabled}
 use Rattle.keys.proofs.Laws.{map-length, map-rising, map-without, rank-held, length-rows, is-held, gone-rows}

@@ -1,12 +1,7 @@
 -- Assumes nothing.
-use mathlib.Core.Path.{_≡_, refl, sym, ap, ap₂, _∙_}
+use mathlib.Core.Path.{refl}
 use native.Mathlib.Omega.{arith}
 use borrow.Author.Needs.{needs}
-use denote.Ref.{now}
-use mathlib.Core.Path.{subst}
-use Prim.Native.Nat.{ℕ}
-use Rattle.listpack.specs.declared.Element.{Element}
-use Rattle.listpack.specs.declared.Element.the-variants.{Integer}
 use Rattle.listpack.proofs.There.{two-there, tiny-there, text-there, short-there, long-there, integer-there, tagged-there, sized-integer, sized-text}
 use Rattle.listpack.proofs.known.known_element.Statement.{statement}
 use Rattle.listpack.proofs.known.known_element.Tie as tie

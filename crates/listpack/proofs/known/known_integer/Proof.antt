@@ -1,9 +1,8 @@
 -- Assumes nothing.
-use mathlib.Core.Path.{_≡_, refl, sym, ap, ap₂, _∙_}
+use mathlib.Core.Path.{refl, _∙_}
 use native.Mathlib.Omega.{arith}
 use borrow.Author.Needs.{needs}
-use denote.Ref.{now}
-use Prim.Native.Nat.{ℕ, _+_, _-_, _*_}
+use Prim.Native.Nat.{_-_}
 use Rattle.listpack.specs.Width.{extend}
 use Rattle.listpack.proofs.There.{two-there, tiny-there, text-there, short-there, long-there, pattern-by}
 use Rattle.listpack.proofs.known.known_integer.Statement.{statement}

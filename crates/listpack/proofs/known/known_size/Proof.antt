@@ -1,8 +1,7 @@
 -- Assumes nothing.
-use mathlib.Core.Path.{_≡_, refl, sym, ap, ap₂, _∙_}
+use mathlib.Core.Path.{refl}
 use native.Mathlib.Omega.{arith}
 use borrow.Author.Needs.{needs}
-use denote.Ref.{now}
 use Rattle.listpack.proofs.There.{two-there, tiny-there, text-there, short-there, size-by, known-tag, last-tag}
 use Rattle.listpack.proofs.known.known_size.Statement.{statement}
 use Rattle.listpack.proofs.known.known_size.Tie as tie

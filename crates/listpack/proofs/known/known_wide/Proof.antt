@@ -1,9 +1,8 @@
 -- Assumes nothing.
-use mathlib.Core.Path.{_≡_, refl, sym, ap, ap₂, _∙_}
+use mathlib.Core.Path.{ap, _∙_}
 use native.Mathlib.Omega.{arith}
 use borrow.Author.Needs.{needs}
 use denote.Ref.{now}
-use Prim.Native.Nat.{_^_}
 use Rattle.octets.specs.Bytes.{Bytes}
 use Rattle.listpack.specs.Width.{extend}
 use Rattle.listpack.proofs.Leaves.{tag-16, tag-24, tag-32}

@@ -1,8 +1,7 @@
 -- Assumes nothing.
-use mathlib.Core.Path.{_≡_, refl, sym, ap, ap₂, _∙_}
+use mathlib.Core.Path.{_≡_, ap, ap₂, _∙_}
 use native.Mathlib.Omega.{arith}
 use borrow.Author.Needs.{needs}
-use denote.Ref.{now}
 use Rattle.listpack.proofs.There.{two-there, long-there, size-by}
 use Rattle.listpack.specs.Element.{backLength}
 use Rattle.listpack.proofs.Forms.{back-size}

@@ -4,7 +4,6 @@ use native.Mathlib.Omega.{arith}
 use Rattle.listpack.proofs.Leaves.{read-text, read-short, read-long, read-tagged}
 use Rattle.listpack.specs.Read.{asInteger, asText}
 use Prim.Native.Nat.{_+_, _-_, _*_}
-use denote.Ref.{now}
 use borrow.Author.Needs.{needs}
 use Rattle.listpack.proofs.read.read_longer.Statement.{statement}
 use Rattle.listpack.proofs.read.read_longer.Tie as tie

@@ -4,7 +4,6 @@ use native.Mathlib.Omega.{arith}
 use denote.Ref.{now}
 use Rattle.listpack.specs.Read.{readWide}
 use Rattle.listpack.proofs.Leaves.{tag-16, tag-24, tag-32, tag-64, tag-none, wide-no}
-use borrow.Author.Needs.{needs}
 use Rattle.listpack.proofs.read.read_tagged.Statement.{statement}
 use Rattle.listpack.proofs.read.read_tagged.Tie as tie
 

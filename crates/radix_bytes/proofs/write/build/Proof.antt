@@ -8,8 +8,8 @@ use lib.ListN.{length, replicate, length-replicate}
 use Rattle.octets.specs.Bytes.{zeros}
 use Rattle.octets.specs.Place.{area}
 use Rattle.octets.proofs.Laws.{part-area, part-put, area-put-at, length-area}
-use Rattle.radix.specs.Record.{lent, rooted}
-use Rattle.radix.specs.Layout.{blank}
+use Rattle.radix.specs.Record.{lent}
+use Rattle.radix.specs.Layout.{blank, rooted}
 use Rattle.radix_bytes.specs.Bytes.{bytesOf}
 use Rattle.radix_bytes.proofs.write.build.Statement.{statement}
 use Rattle.radix_bytes.proofs.write.build.Tie as tie

@@ -5,7 +5,8 @@ use lib.ListN.{length}
 use Rattle.octets.specs.Place.{area}
 use Rattle.octets.proofs.Laws.{length-area}
 use Rattle.radix.specs.declared.Index.{Index}
-use Rattle.radix.specs.Record.{lent, rooted}
+use Rattle.radix.specs.Record.{lent}
+use Rattle.radix.specs.Layout.{rooted}
 use Rattle.radix_bytes.specs.Bytes.{bytesOf, recordFrom}
 use Rattle.radix_bytes.proofs.Laws.{fields-written, record-again}
 use borrow.Author.Needs.{needs}

@@ -1,6 +1,5 @@
 -- `free_at` meets its contract. Assumes nothing.
-use mathlib.Core.Path.{_≡_, _∙_}
-use native.Mathlib.Omega.{arith}
+use mathlib.Core.Path.{_∙_}
 use borrow.Author.Needs.{needs}
 use Rattle.radix_bytes.specs.Bytes.{poolIn}
 use Rattle.radix.proofs.Laws.{free-len, free-key, free-child, free-next, free-val, free-label}

@@ -1,5 +1,4 @@
 -- `free_unless` meets its contract. Assumes nothing.
-use mathlib.Core.Path.{_≡_, _∙_}
 use borrow.Author.Needs.{needs}
 use Rattle.radix_bytes.specs.Bytes.{poolIn}
 use Rattle.radix_judge.proofs.Frees.{free-marked}

@@ -1,5 +1,5 @@
 -- `rest_free` meets its contract. Assumes nothing.
-use mathlib.Core.Path.{_≡_, sym, _∙_}
+use mathlib.Core.Path.{sym, _∙_}
 use borrow.Author.Needs.{needs}
 use Rattle.radix_bytes.specs.Bytes.{poolIn}
 use Rattle.radix_judge.proofs.Frees.{rest-zero}

@@ -1,5 +1,4 @@
 -- `zero_from` meets its contract: field by field. Assumes nothing.
-use mathlib.Core.Path.{_≡_, _∙_}
 use borrow.Author.Needs.{needs}
 use borrow.Author.Tests.{not-true, not-false}
 use Rattle.radix_judge.proofs.Frees.{zero-1, zero-2, zero-3, zero-4, zero-5, zero-6}

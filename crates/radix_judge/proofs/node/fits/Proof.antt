@@ -1,5 +1,4 @@
 -- `fits` meets its contract: test by test. Assumes nothing.
-use mathlib.Core.Path.{_≡_, sym, _∙_}
 use borrow.Author.Needs.{needs}
 use borrow.Author.Tests.{not-true, not-false}
 use Rattle.radix_bytes.specs.Bytes.{poolIn}

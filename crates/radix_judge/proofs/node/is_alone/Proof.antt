@@ -1,10 +1,7 @@
 -- `is_alone` meets its contract. Assumes nothing.
-use mathlib.Core.Bool.{not}
-use mathlib.Core.Path.{_≡_, refl, sym, ap, _∙_}
+use mathlib.Core.Path.{sym}
 use borrow.Author.Needs.{needs}
 use borrow.Author.Tests.{not-true, not-false}
-use Rattle.octets.specs.Pick.{both}
-use Rattle.radix.specs.Record.{leadsOn}
 use Rattle.radix_bytes.specs.Bytes.{poolIn}
 use Rattle.radix.proofs.Laws.{nil-leads}
 use Rattle.radix_judge.proofs.node.is_alone.Statement.{statement}

@@ -1,5 +1,4 @@
 -- `is_one_of` meets its contract. Assumes nothing.
-use native.Mathlib.Omega.{arith}
 use borrow.Author.Needs.{needs}
 use Rattle.radix_bytes.specs.Bytes.{poolIn}
 use Rattle.radix_bytes.proofs.Laws.{label-size}

@@ -1,5 +1,5 @@
 -- `is_value` meets its contract. Assumes nothing.
-use mathlib.Core.Path.{_≡_, sym, _∙_}
+use mathlib.Core.Path.{sym, _∙_}
 use Prim.Native.Nat.{_^_, _<_, _≤_}
 use lib.ListN.{getD}
 use Rattle.radix_bytes.specs.Bytes.{poolIn}

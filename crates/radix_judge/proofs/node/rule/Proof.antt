@@ -1,7 +1,5 @@
 -- `rule` meets its contract. Assumes nothing.
-use mathlib.Core.Path.{_≡_, sym, _∙_}
 use borrow.Author.Needs.{needs}
-use Rattle.radix.specs.Record.{ruleAt}
 use Rattle.radix_judge.proofs.Tests.{due-only, due-one}
 use Rattle.radix_judge.proofs.node.rule.Statement.{statement}
 use Rattle.radix_judge.proofs.node.rule.Tie as tie
