@@ -84,12 +84,12 @@ pub fn first_at_or_above_sound(bytes: &[u8], key: &[u8]) -> Neighbour
     requires { ⌜ (length (now bytes) ≡ recordSize) × IsSound (entriesIn (now bytes)) ⌝ }
     ensures { λ r. ⌜ r ≡ neighbourOf (replyIn (firstAtOrAbove (now (key .entry))) (entriesIn (now (bytes .entry)))) ⌝ }
 {
-    index::first_at_or_above_sound(bytes, key)
+    index_neighbours::first_at_or_above_sound(bytes, key)
 }
 
 pub fn last_at_or_below_sound(bytes: &[u8], key: &[u8]) -> Neighbour
     requires { ⌜ (length (now bytes) ≡ recordSize) × IsSound (entriesIn (now bytes)) ⌝ }
     ensures { λ r. ⌜ r ≡ neighbourOf (replyIn (lastAtOrBelow (now (key .entry))) (entriesIn (now (bytes .entry)))) ⌝ }
 {
-    index::last_at_or_below_sound(bytes, key)
+    index_neighbours::last_at_or_below_sound(bytes, key)
 }

@@ -60,7 +60,7 @@ pub extern "C" fn wallathi_acknowledge(
     ensures { λ r. ⌜ Meets (plain (inGroup (now (group .entry)) (acknowledge (idOf ms seq))) (now (count .entry) ∷ [])) (lent (now (store .entry)) (now (state .entry))) (seen r (now (count .exit) ∷ []) []) (lent (now (store .entry)) (now (state .exit))) ⌝ }
 {
     telling::tell_number(
-        stream_entries::acknowledge(store, state, group, Id::new(ms, seq)),
+        stream_pending::acknowledge(store, state, group, Id::new(ms, seq)),
         count,
     )
 }
@@ -78,7 +78,7 @@ pub extern "C" fn wallathi_claim(
 ) -> u32
     ensures { λ r. ⌜ Meets (plain (inGroup (now (group .entry)) (claim (now (consumer .entry)) «least_idle» (idOf ms seq) time)) []) (lent (now (store .entry)) (now (state .entry))) (seen r [] []) (lent (now (store .entry)) (now (state .exit))) ⌝ }
 {
-    telling::tell(stream_entries::claim(
+    telling::tell(stream_pending::claim(
         store,
         state,
         group,
@@ -132,7 +132,7 @@ pub extern "C" fn wallathi_drop_consumer(
     ensures { λ r. ⌜ Meets (plain (inGroup (now (group .entry)) (dropConsumer (now (consumer .entry)))) (now (count .entry) ∷ [])) (lent (now (store .entry)) (now (state .entry))) (seen r (now (count .exit) ∷ []) []) (lent (now (store .entry)) (now (state .exit))) ⌝ }
 {
     telling::tell_number(
-        stream_entries::drop_consumer(store, state, group, consumer),
+        stream_pending::drop_consumer(store, state, group, consumer),
         count,
     )
 }

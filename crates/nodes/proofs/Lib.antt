@@ -1,3 +1,0 @@
--- Assumes nothing.
-pub mod Made
-pub mod Fits
