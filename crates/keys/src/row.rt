@@ -23,18 +23,12 @@ pub fn is_key(k: &[u8]) -> bool
     k.len() <= 16
 }
 
-fn wide(x: u8) -> usize
-    ensures { λ r. ⌜ (r ≡ x) × (r < 256) ⌝ }
-{
-    x as usize
-}
-
 // How long the key of row i is.
 pub fn row_len(len: &[u8; 64], i: usize) -> usize
     requires { ⌜ i < 64 ⌝ }
     ensures { λ r. ⌜ (r ≡ lengthOf (now (len .entry)) i) × (r ≤ 16) ⌝ }
 {
-    let n = wide(len[i]);
+    let n = octets::wide_place(len[i]);
     if 16 < n {
         return 16;
     }

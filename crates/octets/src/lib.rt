@@ -34,3 +34,10 @@ pub fn wide(x: u8) -> u64
 {
     x as u64
 }
+
+// A byte as a place or a length, with its range.
+pub fn wide_place(x: u8) -> usize
+    ensures { λ r. ⌜ (r ≡ x) × (r < 256) ⌝ }
+{
+    x as usize
+}

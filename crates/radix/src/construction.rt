@@ -16,12 +16,6 @@ ghost use Rattle.keys.specs.Entries.{isMap};
 use keys::Table;
 use keys::row_len;
 
-fn wide(x: u8) -> usize
-    ensures { λ r. ⌜ (r ≡ x) × (r < 256) ⌝ }
-{
-    x as usize
-}
-
 // How many bytes from p and from q on are the same, of m and k bytes.
 fn shared(key: &[u8], p: usize, m: usize, q: usize, k: usize) -> usize
     requires { ⌜ (p + m ≤ length (now key)) × (q + k ≤ length (now key)) ⌝ }
@@ -168,7 +162,7 @@ pub fn grow<'a>(
     let m = group_end(keys, a, b, d);
     let n = stretch_of(rows, keys, a, b, d, first, m);
     let own = own_row(rows, vals, a, d + n);
-    let skip = wide(own.key);
+    let skip = octets::wide_place(own.key);
     let f = grow(
         rows,
         vals,

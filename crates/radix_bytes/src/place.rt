@@ -8,12 +8,6 @@ ghost use Rattle.radix.specs.Record.{labelOf};
 ghost use Rattle.keys.specs.Table.{lengthOf};
 ghost use Rattle.radix_bytes.specs.Bytes.{recordSize, recordFrom, poolIn};
 
-fn wide(x: u8) -> usize
-    ensures { λ r. ⌜ (r ≡ x) × (r < 256) ⌝ }
-{
-    x as usize
-}
-
 // The root's place.
 pub fn root_of(s: &[u8]) -> usize
     requires { ⌜ length (now s) ≡ recordSize ⌝ }
@@ -26,14 +20,14 @@ pub fn len_at(s: &[u8], p: usize) -> usize
     requires { ⌜ (length (now s) ≡ recordSize) × (p < 256) ⌝ }
     ensures { λ r. ⌜ (r ≡ getD (poolIn (now (s .entry)) .len) p 0) × (r < 256) ⌝ }
 {
-    wide(s[2 + p])
+    octets::wide_place(s[2 + p])
 }
 
 pub fn key_at(s: &[u8], p: usize) -> usize
     requires { ⌜ (length (now s) ≡ recordSize) × (p < 256) ⌝ }
     ensures { λ r. ⌜ (r ≡ getD (poolIn (now (s .entry)) .key) p 0) × (r < 256) ⌝ }
 {
-    wide(s[258 + p])
+    octets::wide_place(s[258 + p])
 }
 
 pub fn child_at(s: &[u8], p: usize) -> usize
@@ -76,5 +70,5 @@ pub fn first_byte(s: &[u8], p: usize) -> usize
     if label_len(s, p) == 0 {
         return 0;
     }
-    wide(s[2562 + 16 * p])
+    octets::wide_place(s[2562 + 16 * p])
 }

@@ -27,7 +27,7 @@ use Rattle.radix.proofs.construction.link_over.Reads as link-over-reads
 use Rattle.radix.proofs.construction.own_row.Reads as own-row-reads
 use Rattle.radix.proofs.construction.put_node.Reads as put-node-reads
 use Rattle.radix.proofs.construction.stretch_of.Reads as stretch-of-reads
-use Rattle.radix.proofs.construction.wide.Reads as wide-reads
+use Rattle.octets.proofs.wide_place.Reads as wide-reads
 use Rattle.radix.proofs.construction.+grow.{statement}
 use Rattle.radix.proofs.construction.+grow.Tie.{close}
 
@@ -91,19 +91,19 @@ module _ (t : ℕ) (c : grow-lts.After-stretch-of (calls t) (grow-at t) grow.Pos
       label-fits (table c.before.before.before.before.before.before) (x .left) (x .first) (x .a) (x .b) (x .d) (x .at) (x .label .now) (ready t c.before.before) (less t c.before.before) (c.before .group-end .result) (c .stretch-of .result)
       (c.before .group-end .ensures) (c .stretch-of .ensures)
 
-module _ (t : ℕ) (c : grow-lts.After-wide (calls t) (grow-at t) grow.Post) where
+module _ (t : ℕ) (c : grow-lts.After-wide-place (calls t) (grow-at t) grow.Post) where
   ends : Bool
   ends = eqb (lengthOf (c.before.before.before.before.before.before.before.before .args .rows .now) (c.before.before.before.before.before.before.before.before .args .a)) (c.before.before.before.before.before.before.before.before .args .d + c.before.before .stretch-of .result)
 
-  skip : c .wide .result ≡ pick ends 1 0
+  skip : c .wide-place .result ≡ pick ends 1 0
   unfolding ends
-  skip = c .wide .ensures .0 ∙ c.before .own-row .ensures .0
+  skip = c .wide-place .ensures .0 ∙ c.before .own-row .ensures .0
 
   later : Shape
   later = let x = c.before.before.before.before.before.before.before.before .args in sprout (x .left - 1) false (restAt (table c.before.before.before.before.before.before.before.before) (x .d) (c.before.before.before .group-end .result) (x .b))
 
   below : Shape
-  below = let x = c.before.before.before.before.before.before.before.before .args in sprout (x .left - 1) true (restAt (table c.before.before.before.before.before.before.before.before) (x .d + c.before.before .stretch-of .result) (x .a + c .wide .result) (c.before.before.before .group-end .result))
+  below = let x = c.before.before.before.before.before.before.before.before .args in sprout (x .left - 1) true (restAt (table c.before.before.before.before.before.before.before.before) (x .d + c.before.before .stretch-of .result) (x .a + c .wide-place .result) (c.before.before.before .group-end .result))
 
   made : let x = c.before.before.before.before.before.before.before.before .args in
       sprout (x .left) (x .first) (restAt (table c.before.before.before.before.before.before.before.before) (x .d) (x .a) (x .b))
@@ -123,7 +123,7 @@ module _ (t : ℕ) (c : grow-lts.After-wide (calls t) (grow-at t) grow.Post) whe
       (c.before.before.before .group-end .ensures) (c.before.before .stretch-of .ensures) _ refl (more t c.before.before.before.before)
 
   below-ready : (f : ℕ) (label : List ℕ) → f ≡ c.before.before.before.before.before.before.before.before .args .at + nodes later → length label ≡ 4096
-      → let x = c.before.before.before.before.before.before.before.before .args in Ready (table c.before.before.before.before.before.before.before.before) (x .left - 1) true (x .a + c .wide .result) (c.before.before.before .group-end .result) (x .d + c.before.before .stretch-of .result) f label
+      → let x = c.before.before.before.before.before.before.before.before .args in Ready (table c.before.before.before.before.before.before.before.before) (x .left - 1) true (x .a + c .wide-place .result) (c.before.before.before .group-end .result) (x .d + c.before.before .stretch-of .result) f label
   unfolding ends later
   below-ready f label e l =
       let x = c.before.before.before.before.before.before.before.before .args in
@@ -159,7 +159,7 @@ unfolding later below ends
     (λ c. omega (arith, more t c.before.before.before.before))
     (λ c κs. (omega (arith, more t c.before.before.before.before.before.before.before.before.before.before, c.before.before.before.before.before.before.before.before.before.before.before.before.before.before .pre .0), later-ready t c.before.before.before.before.before.before))
     (λ c. omega (arith, more t c.before.before.before.before.before.before.before.before.before.before.before.before.before))
-    (λ c. omega (arith, c.before.before.before.before.before.before.before.before.before .wide .ensures .1, less t c.before.before.before.before.before.before.before.before.before.before.before.before.before, ready t c.before.before.before.before.before.before.before.before.before.before.before.before.before .most))
+    (λ c. omega (arith, c.before.before.before.before.before.before.before.before.before .wide-place .ensures .1, less t c.before.before.before.before.before.before.before.before.before.before.before.before.before, ready t c.before.before.before.before.before.before.before.before.before.before.before.before.before .most))
     (λ c. omega (arith, fits t c.before.before.before.before.before.before.before.before.before.before.before))
     (λ c κs. (
       omega (arith, more t c.before.before.before.before.before.before.before.before.before.before.before.before.before.before.before.before.before.before.before, c.before.before.before.before.before.before.before.before.before.before.before.before.before.before.before.before.before.before.before.before.before.before.before .pre .0),

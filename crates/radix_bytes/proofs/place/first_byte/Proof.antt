@@ -18,4 +18,4 @@ first-byte-spec =
     (λ c κs. search needs)
     (λ c.
     let x = c.before.before.before.before.before .args in
-    (c .wide .ensures .0 ∙ first-some (x .s .now) (x .p) (omega arith) (c.before.before.before .label-len .result) (omega arith) (c.before.before.before .label-len .ensures .0) (c.before.before .if1 .left), c .wide .ensures .1)))
+    (c .wide-place .ensures .0 ∙ first-some (x .s .now) (x .p) (omega arith) (c.before.before.before .label-len .result) (omega arith) (c.before.before.before .label-len .ensures .0) (c.before.before .if1 .left), c .wide-place .ensures .1)))

@@ -13,4 +13,4 @@ key-at-spec =
     (λ c. search needs)
     (λ c. search needs)
     (λ c κs. search needs)
-    (λ c. let x = c.before.before.before .args in (c .wide .ensures .0 ∙ key-of (x .s .now) (x .p) (omega arith), c .wide .ensures .1)))
+    (λ c. let x = c.before.before.before .args in (c .wide-place .ensures .0 ∙ key-of (x .s .now) (x .p) (omega arith), c .wide-place .ensures .1)))

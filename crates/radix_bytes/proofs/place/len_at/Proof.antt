@@ -13,4 +13,4 @@ len-at-spec =
     (λ c. search needs)
     (λ c. search needs)
     (λ c κs. search needs)
-    (λ c. let x = c.before.before.before .args in (c .wide .ensures .0 ∙ len-of (x .s .now) (x .p) (omega arith), c .wide .ensures .1)))
+    (λ c. let x = c.before.before.before .args in (c .wide-place .ensures .0 ∙ len-of (x .s .now) (x .p) (omega arith), c .wide-place .ensures .1)))
