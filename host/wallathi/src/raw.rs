@@ -19,8 +19,7 @@ pub const STATE_BYTES: usize = 64_434;
 pub type State = [u8; STATE_BYTES];
 
 /// The functions themselves.
-pub mod c {
-    #![allow(missing_docs)]
+mod c {
     extern "C" {
         pub fn wallathi_state_bytes() -> u64;
         pub fn wallathi_set_up(store: *mut u8, store_length: usize, state: *mut u8) -> u32;

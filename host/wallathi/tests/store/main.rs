@@ -11,7 +11,6 @@ mod lent;
 mod limits;
 mod lists;
 mod nodes;
-mod pointers;
 mod sides;
 mod strings;
 
