@@ -1,7 +1,7 @@
 # Both libraries with their headers, manual pages and pkg-config files. `make install PREFIX=/usr DESTDIR=..`
 PREFIX = /usr/local
 DESTDIR =
-VERSION = 0.1.0
+VERSION := $(shell cat VERSION)
 INSTALL = install
 
 libraries = wallathi wallathi_index
@@ -19,7 +19,7 @@ target/man/%.3: host/include/%.h host/manpage
 	mkdir -p target/man
 	host/manpage $< >$@
 
-target/pkgconfig/%.pc: Makefile
+target/pkgconfig/%.pc: Makefile VERSION
 	mkdir -p target/pkgconfig
 	printf 'prefix=%s\nName: %s\nDescription: %s\nVersion: %s\nCflags: -I$${prefix}/include\nLibs: -L$${prefix}/lib -l%s\n' \
 	    '$(PREFIX)' '$*' '$(description_$*)' '$(VERSION)' '$*' >$@
