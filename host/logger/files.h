@@ -3,7 +3,7 @@
  *     FOLDER/00000000000000000005.snapshot            20 digits
  *     FOLDER/00000000000000000004.snapshot.refused    set aside: never read, never removed
  *     FOLDER/saving                                   a snapshot that is being written; one that was left behind is removed at the start
- *     FOLDER/lock                                     locked (fcntl) while the process lives
+ *     FOLDER/lock                                     locked (fcntl) while the process lives: it keeps other processes out
  *
  * What fails answers -1: `step` is then the call of the system that failed, and errno why. FILES_BUSY is another process with the lock.
  */

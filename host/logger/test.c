@@ -94,7 +94,7 @@ static void trimming(uint64_t keep, size_t channels)
 static void packing(const char *folder)
 {
     static const char *const names[] = {"a", "b", "c", "d", "e", "f", "g", "h"};
-    uint64_t loaded, len, trimmed, random = 1;
+    uint64_t loaded, len, trimmed = 0, random = 1;
     uint32_t code = WALLATHI_OK;
     check(logger_start(&l, folder, &loaded) == WALLATHI_OK && loaded == 0, l.said, 0);
     for (uint64_t second = 1; code != WALLATHI_MOST_NODES; second++) {
@@ -186,7 +186,7 @@ static void has_file(const char *folder, int number)
 static void files_of_others(const char *folder)
 {
     char away[500];
-    uint64_t loaded, trimmed;
+    uint64_t loaded, trimmed = 0;
     check(logger_start(&l, folder, &loaded) == WALLATHI_OK && loaded == 0, l.said, 0);
     put_file(folder, 1);
     put_file(folder, 4);

@@ -253,17 +253,20 @@ fn clock_goes_back(place: &Place) -> Outcome {
     says("back", seen, true, &["loaded 3 up to 15000", back, again, "saved 4 up to 16500"])
 }
 
-/// The last number and the last ms there are: loaded at once, and no number is left for a save.
+/// The last ms and the last number that there are: both are loaded, and above the number is none for a save.
 fn greatest(place: &Place) -> Outcome {
     let mut ledger = Ledger::empty();
     ledger.last_id = Id::new(u64::MAX, 0);
     ledger.messages.insert(ledger.last_id, vec![(b"east".to_vec(), b"0".to_vec())]);
     fs::create_dir(&place.folder).expect("a folder");
     let file = snapshot::snapshot(&ledger).expect("a snapshot");
-    fs::write(place.snapshot(u64::MAX), file).expect("a file");
+    fs::write(place.snapshot(1), &file).expect("a file");
     let last = u64::MAX;
-    let loaded = format!("loaded {last} up to {last}");
     let clock = format!("clock 999 is not above the last message: its ID is {last}-1");
+    let (loaded, saved) = (format!("loaded 1 up to {last}"), format!("saved 2 up to {last}"));
+    says("the last ms", ran(&mut place.command(1)), true, &[&loaded, &clock, &saved])?;
+    fs::write(place.snapshot(last), file).expect("a file");
+    let loaded = format!("loaded {last} up to {last}");
     let none_left = fault("next number", "Value too large for defined data type");
     says("greatest", ran(&mut place.command(1)), false, &[&loaded, &clock, &none_left])
 }
