@@ -136,7 +136,13 @@ int files_open(struct files *f, const char *folder)
         return answer;
     }
     path_to(f, "saving", temporary);
-    return unlink(temporary) == 0 || errno == ENOENT ? 0 : failed(f, "unlink");
+    if (unlink(temporary) != 0 && errno != ENOENT) {
+        int error = errno;
+        files_close(f);
+        errno = error;
+        return failed(f, "unlink");
+    }
+    return 0;
 }
 
 void files_close(struct files *f)

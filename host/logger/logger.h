@@ -1,12 +1,13 @@
 /* A logger over the store: it keeps store and state in memory, adds a message a second, and saves to a folder so that a crash at any
  * moment loses nothing that was saved. What a field programmer would copy: logger.c, files.c, and hut.c as the program around them.
  *
- * At the start every snapshot in the folder is loaded, oldest first, and the newest that the store accepts stays; without one the store is
- * set up. A file that the store refuses is set aside under another name. A file that the system does not let us read ends the start,
- * unless a newer one is loaded. One process has the folder: a second one is turned away.
+ * At the start the newest FILES_MOST_HELD snapshots in the folder are loaded, oldest first, and the newest that the store accepts stays;
+ * without one the store is set up. A file that the store refuses is set aside under another name. A file that the system does not let us
+ * read ends the start, unless a newer one is loaded. One process has the folder: a second one is turned away.
  *
- * A save that fails leaves what was saved before, and the next one tries again. The last FILES_KEPT saves stay; a file that was neither
- * loaded nor saved by this process is never removed. files.h has the names in the folder.
+ * A save that fails leaves what was saved before, and the next one tries again. A folder that goes away is not made anew, since it may be a
+ * disk that comes back. The last FILES_KEPT saves stay; a file that this process neither loaded nor saved is never removed. files.h has the
+ * names in the folder.
  */
 #ifndef WALLATHI_LOGGER_H
 #define WALLATHI_LOGGER_H

@@ -300,8 +300,9 @@ impl Running {
 
     /// The remaining lines after a signal.
     fn end(mut self, signal: &str) -> Ran {
-        let sent = Command::new("kill").arg(signal).arg(self.child.id().to_string()).status();
-        assert!(sent.expect("kill can be started").success());
+        let process = self.child.id().to_string();
+        let sent = Command::new("sh").args(["-c", "kill \"$0\" \"$1\"", signal, &process]).status();
+        assert!(sent.expect("a shell can be started").success());
         let lines = self.lines.by_ref().map_while(Result::ok).collect();
         Ran { lines, well: self.child.wait().expect("the logger ends").success() }
     }
