@@ -19,8 +19,8 @@ use crate::read::wide_value;
 
 // A number at the start of a part, and how many bytes its element takes.
 pub enum Leading {
-    Number { pattern: u64, size: usize },
-    NoNumber,
+    Numeral { pattern: u64, size: usize },
+    NoNumeral,
 }
 
 // A number of w bytes.
@@ -106,23 +106,23 @@ pub fn read_number(t: &[u8]) -> Leading
     ensures { λ r. ⌜ r ≡ leadingOf (readElement (now (t .entry))) ⌝ }
 {
     if t.len() < 2 {
-        return Leading::NoNumber;
+        return Leading::NoNumeral;
     }
     let b = octets::wide(t[0]);
     if b < 128 {
         if t[1] != 1 {
-            return Leading::NoNumber;
+            return Leading::NoNumeral;
         }
-        return Leading::Number {
+        return Leading::Numeral {
             pattern: b,
             size: 2,
         };
     }
     let p = long_integer(t, b);
     if p == 0 {
-        return Leading::NoNumber;
+        return Leading::NoNumeral;
     }
-    Leading::Number {
+    Leading::Numeral {
         pattern: p,
         size: long_size(b),
     }

@@ -1,9 +1,9 @@
 -- Assumes nothing.
-use mathlib.Core.Path.{sym, ap, ap₂, _∙_}
+use mathlib.Core.Path.{sym, ap, _∙_}
 use native.Mathlib.Omega.{arith}
 use borrow.Author.Needs.{needs}
 use Rattle.listpack.specs.AtPlace.{leadingOf}
-use Rattle.listpack.specs.declared.strict.Leading.the-variants.{Number}
+use Rattle.listpack.specs.declared.strict.Leading.the-variants.{Numeral}
 use Rattle.listpack.proofs.Leaves.{read-none}
 use Rattle.listpack.proofs.AtPlace.{tiny-is, tiny-bad, number-none, number-some}
 use Rattle.listpack.proofs.strict.read_number.Statement.{statement}
@@ -22,4 +22,4 @@ read-number-spec =
     (λ c κs. search needs)
     (λ c. sym (number-none _ _ (omega arith) (c .before .before .before .wide .ensures .0) (omega arith) (sym (c .before .long-integer .ensures) ∙ c .if4 .taken)))
     (λ c κs. search needs)
-    (λ c. ap (Number (c .before .before .long-integer .result)) (c .long-size .ensures) ∙ sym (number-some _ _ (omega arith) (c .before .before .before .before .wide .ensures .0) (omega arith) _ (c .before .before .long-integer .ensures) (c .before .if4 .left))))
+    (λ c. ap (Numeral (c .before .before .long-integer .result)) (c .long-size .ensures) ∙ sym (number-some _ _ (omega arith) (c .before .before .before .before .wide .ensures .0) (omega arith) _ (c .before .before .long-integer .ensures) (c .before .if4 .left))))

@@ -1,7 +1,6 @@
 -- Assumes nothing.
-use mathlib.Core.Path.{sym, ap, _∙_}
+use mathlib.Core.Path.{sym, ap}
 use native.Mathlib.Omega.{arith}
-use denote.Ref.{now}
 use borrow.Author.Needs.{needs}
 use Rattle.listpack.specs.AtPlace.{stringSize}
 use Rattle.listpack.proofs.Leaves.{read-none}
