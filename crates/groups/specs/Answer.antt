@@ -66,10 +66,10 @@ heldAs consumers k (some p) = Entry k (placeOf (p .consumer) consumers) (p .time
 unfoldable pub heldIn : Id → Group → Held
 heldIn i g = heldAs (g .consumers) (placeOfId i (g .pending)) (findPending i (g .pending))
 
--- next pending
-abbrev pub nextAs : Option Pending → Next
-nextAs none = Nothing
-nextAs (some p) = Given (p .id) (p .time) (p .count)
+-- next pending: the consumer's entry that an answer gives, or none
+abbrev pub nextEntry : List ℕ → Next → Option Pending
+nextEntry consumer (Given i time count) = some (record { id = i; consumer = consumer; time = time; count = count })
+nextEntry consumer Nothing = none
 
 -- 12, a consumer would be made and 16 exist
 unfoldable pub lacksConsumer : List ℕ → Group → Bool

@@ -12,7 +12,7 @@ ghost use Rattle.groups.specs.Group.{mostConsumers, mostPending};
 ghost use Rattle.groups.specs.Bytes.{entryBytes, placeAt};
 ghost use Rattle.groups.specs.Parse.{entryId, groupIn};
 ghost use Rattle.groups.specs.Step.{nextPending};
-ghost use Rattle.groups.specs.Answer.{SoundRegion, spotFrom, placeIn, heldIn, nextAs};
+ghost use Rattle.groups.specs.Answer.{SoundRegion, spotFrom, placeIn, heldIn, nextEntry};
 use crate::CONSUMERS_AT;
 use crate::COUNT_AT;
 use crate::DELIVERED_AT;
@@ -126,7 +126,7 @@ fn is_next(region: &[u8], at: usize, consumer: usize, after: Id) -> bool
 // The next entry of the consumer at a place.
 fn next_of(region: &[u8], consumer: usize, after: Id) -> Next
     requires { ⌜ SoundRegion (now region) × (consumer < length (groupIn (now region) .consumers)) ⌝ }
-    ensures { λ r. ⌜ r ≡ nextAs (nextPending (getD (groupIn (now (region .entry)) .consumers) consumer []) after (groupIn (now (region .entry)))) ⌝ }
+    ensures { λ r. ⌜ nextEntry (getD (groupIn (now (region .entry)) .consumers) consumer []) r ≡ nextPending (getD (groupIn (now (region .entry)) .consumers) consumer []) after (groupIn (now (region .entry))) ⌝ }
 {
     let mut left = pending_count(region);
     let mut at = ENTRIES_AT;
@@ -144,7 +144,7 @@ fn next_of(region: &[u8], consumer: usize, after: Id) -> Next
 
 pub fn next_pending(region: &[u8], consumer: &[u8], after: Id) -> Next
     requires { ⌜ SoundRegion (now region) ⌝ }
-    ensures { λ r. ⌜ r ≡ nextAs (nextPending (now (consumer .entry)) after (groupIn (now (region .entry)))) ⌝ }
+    ensures { λ r. ⌜ nextEntry (now (consumer .entry)) r ≡ nextPending (now (consumer .entry)) after (groupIn (now (region .entry))) ⌝ }
 {
     match find_consumer(region, consumer) {
         Place::At(k) => next_of(region, k, after),
