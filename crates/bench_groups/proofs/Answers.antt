@@ -1,44 +1,41 @@
 -- What each function answers, return by return. Assumes nothing.
-use mathlib.Core.Path.{_≡_, refl, ap}
+use mathlib.Core.Path.{_≡_, refl}
 use mathlib.Core.Bool.{Bool, true, false, not}
 use mathlib.Core.List.{List}
 use mathlib.Core.Option.{Option}
 use Prim.Native.Nat.{ℕ, _+_, _≤_, _<_}
-use native.Mathlib.Omega.{arith}
 use lib.Dec.{leb}
 use lib.ListN.{length}
-use Rattle.octets.specs.Pick.{pick}
-use borrow.Author.Tests.{le-leb, lt-leb, leb-true}
+use Rattle.octets.specs.Pick.{pick, both}
+use borrow.Author.Tests.{le-leb, lt-leb, leb-true, ne-eqb}
 use Rattle.octets.specs.Bytes.{Bytes}
 use Rattle.octets.specs.Maybe.{isNone}
 use Rattle.octets.proofs.Laws.{both-true}
 use Rattle.id.specs.declared.Id.{Id}
 use Rattle.id.specs.Id.{greatest, below}
-use Rattle.groups.specs.declared.Judged.{Judged}
-use Rattle.groups.specs.declared.Judged.the-variants.{Free, Sound, Bad}
+use Rattle.groups.specs.Group.{pendingUpTo}
 use Rattle.groups.specs.Bytes.{regionBytes}
-use Rattle.groups.specs.Parse.{groupIn}
+use Rattle.groups.specs.Parse.{groupIn, isRegion, parseRegion}
 use Rattle.groups.specs.Step as step
-use Rattle.groups.specs.Answer.{judgeOf, SoundRegion}
+use Rattle.groups.specs.Answer.{SoundRegion}
 use Rattle.groups.specs.Area.{parseArea}
-use Rattle.groups.proofs.Laws.{judged-sound}
+use Rattle.groups.proofs.Laws.{parse-sound}
 use Rattle.groups_change.specs.Change.{refusalToDeliver, unlessRefused, foundCount, refusalToClaim, claimMoves, claimedAs}
 use Rattle.group_area.specs.Answer.{groupsIn, SoundArea, refusalToCreate, createdBytes, refusalToDestroy, destroyedBytes}
 use Rattle.group_area.proofs.Laws.{judged-area}
-use Rattle.bench_groups.specs.Answer.{After, isSound, soundIn, isShort, numberOf, delivers, acknowledges, claimNumber, claims, drops, areaSound, creates, destroys}
-
-sound-case : (v : Judged) → isSound v ≡ true → v ≡ Sound
-sound-case Free e = absurd (let z : _≡_ {A = ℕ} 0 1 = cc in omega arith)
-sound-case Sound e = refl
-sound-case Bad e = absurd (let z : _≡_ {A = ℕ} 0 1 = cc in omega arith)
+use Rattle.bench_groups.specs.Answer.{After, soundIn, isShort, numberOf, delivers, acknowledges, claimNumber, claims, drops, areaSound, creates, destroys}
 
 pub region-sound : (s : List ℕ) → Bytes s → soundIn s ≡ true → SoundRegion s
-unfolding soundIn
-region-sound s b e = judged-sound greatest s b (sound-case (judgeOf greatest s) e) .sound
+unfolding soundIn parseRegion
+region-sound s b e = parse-sound s (groupIn s) b (rw (both-true (isRegion s) (pendingUpTo greatest (groupIn s .pending)) e .0)) .sound
 
-pub judged-in : (v : Judged) (s : List ℕ) → v ≡ judgeOf greatest s → isSound v ≡ soundIn s
+pub size-bad : (s : List ℕ) → (length s ≡ 7220 → ⊥) → false ≡ soundIn s
+unfolding soundIn isRegion
+size-bad s h = rw (ne-eqb (length s) 7220 h)
+
+pub region-judged : (s : List ℕ) → both (isRegion s) (pendingUpTo greatest (groupIn s .pending)) ≡ soundIn s
 unfolding soundIn
-judged-in v s e = ap isSound e
+region-judged s = refl
 
 pub area-sound : (s : List ℕ) → Bytes s → areaSound s ≡ true → SoundArea s
 unfolding areaSound

@@ -9,13 +9,10 @@ use Rattle.octets.specs.Pick.{pick, both}
 use Rattle.octets.specs.Maybe.{isNone}
 use Rattle.id.specs.declared.Id.{Id}
 use Rattle.id.specs.Id.{greatest, below}
-use Rattle.groups.specs.declared.Judged.{Judged}
-use Rattle.groups.specs.declared.Judged.the-variants.{Free, Sound, Bad}
-use Rattle.groups.specs.Group.{longestName}
+use Rattle.groups.specs.Group.{longestName, pendingUpTo}
 use Rattle.groups.specs.Bytes.{regionBytes}
-use Rattle.groups.specs.Parse.{groupIn}
+use Rattle.groups.specs.Parse.{groupIn, isRegion}
 use Rattle.groups.specs.Step as step
-use Rattle.groups.specs.Answer.{judgeOf}
 use Rattle.groups.specs.Area.{parseArea}
 use Rattle.groups_change.specs.Change.{refusalToDeliver, unlessRefused, foundCount, refusalToClaim, claimMoves, claimedAs}
 use Rattle.group_area.specs.Answer.{groupsIn, refusalToCreate, createdBytes, refusalToDestroy, destroyedBytes}
@@ -32,13 +29,8 @@ pub record After : Type 0 where
 abbrev pub after : ℕ → List ℕ → After
 after n s = record { answer = n; bytes = s }
 
-abbrev pub isSound : Judged → Bool
-isSound Free = false
-isSound Sound = true
-isSound Bad = false
-
 unfoldable pub soundIn : List ℕ → Bool
-soundIn s = isSound (judgeOf greatest s)
+soundIn s = both (isRegion s) (pendingUpTo greatest (groupIn s .pending))
 
 unfoldable pub isShort : List ℕ → Bool
 isShort n = both (leb 1 (length n)) (leb (length n) longestName)

@@ -20,14 +20,14 @@ use Rattle.id.specs.declared.Id.{Id}
 use Rattle.id.specs.Id.{below, sameId}
 use Rattle.id.specs.Bytes.{idFrom}
 use Rattle.groups.specs.declared.Spot.the-variants.{Known, New}
-use Rattle.groups.specs.declared.Held.{Held}
-use Rattle.groups.specs.declared.Held.the-variants.{Entry, Missing}
-use Rattle.groups.specs.declared.Next.the-variants.{Given}
+use Rattle.groups.specs.declared.PendingEntry.{PendingEntry}
+use Rattle.groups.specs.declared.PendingEntry.the-variants.{Entry, Missing}
+use Rattle.groups.specs.declared.NextEntry.the-variants.{Given}
 use Rattle.groups.specs.Group.{Pending, Group, namesAbove, isAmong, isPending, arePending}
-use Rattle.groups.specs.Bytes.{placeOf}
-use Rattle.groups.specs.Parse.{nameIn, namesIn, entryId, pendingIn, allPendingIn, consumersIn, entriesIn, groupIn}
+use Rattle.groups.specs.Bytes.{placeOfName}
+use Rattle.groups.specs.Parse.{nameIn, namesIn, entryId, pendingIn, allPendingIn, consumerCountIn, pendingCountIn, groupIn}
 use Rattle.groups.specs.Step.{findPending, pendingOf, firstAbove, nextPending}
-use Rattle.groups.specs.Answer.{spotFrom, placeOfId, heldAs, heldIn, nextEntry}
+use Rattle.groups.specs.Answer.{spotFrom, placeOfId, heldAs, heldIn, entryGiven}
 use Rattle.groups.proofs.Fields.{length-names-in}
 use Rattle.groups.proofs.Entries.{entry, length-pending-in}
 use Rattle.groups.proofs.Rules.{Rules}
@@ -36,13 +36,13 @@ use Rattle.groups.proofs.Spots.{place-among, same-place, none-of}
 
 -- the numbers of consumers and of entries, and the lists that the searches go through
 module _ (s : List ℕ) where
-  pub consumers-counted : length (groupIn s .consumers) ≡ consumersIn s
+  pub consumers-counted : length (groupIn s .consumers) ≡ consumerCountIn s
   unfolding groupIn
-  consumers-counted = length-names-in (consumersIn s) (drop 34 s)
+  consumers-counted = length-names-in (consumerCountIn s) (drop 34 s)
 
-  pub entries-counted : length (groupIn s .pending) ≡ entriesIn s
+  pub entries-counted : length (groupIn s .pending) ≡ pendingCountIn s
   unfolding groupIn
-  entries-counted = length-pending-in (entriesIn s) (namesIn (consumersIn s) (drop 34 s)) (drop 308 s)
+  entries-counted = length-pending-in (pendingCountIn s) (namesIn (consumerCountIn s) (drop 34 s)) (drop 308 s)
 
   pub names-from : (n : ℕ) → n ≡ length (groupIn s .consumers) → namesIn n (drop 34 s) ≡ groupIn s .consumers
   unfolding groupIn
@@ -50,7 +50,7 @@ module _ (s : List ℕ) where
 
   pub pending-from : (n : ℕ) → n ≡ length (groupIn s .pending) → allPendingIn n (groupIn s .consumers) (drop 308 s) ≡ groupIn s .pending
   unfolding groupIn
-  pending-from n e = ap (λ (k : ℕ). allPendingIn k (namesIn (consumersIn s) (drop 34 s)) (drop 308 s)) (e ∙ entries-counted)
+  pending-from n e = ap (λ (k : ℕ). allPendingIn k (namesIn (consumerCountIn s) (drop 34 s)) (drop 308 s)) (e ∙ entries-counted)
 
 -- the parts of the entry at a place
 module _ (cs : List (List ℕ)) (at : ℕ) (s : List ℕ) where
@@ -96,7 +96,7 @@ module _ (k : ℕ) (n : List ℕ) (left at : ℕ) (s : List ℕ) where
       go (suc m) q = absurd (omega arith)
 
 -- an ID's entry among the entries that are left
-abbrev pub heldFrom : List (List ℕ) → ℕ → Id → List Pending → Held
+abbrev pub heldFrom : List (List ℕ) → ℕ → Id → List Pending → PendingEntry
 heldFrom cs k i ps = heldAs cs (k + placeOfId i ps) (findPending i ps)
 
 pub held-start : (s : List ℕ) (n : ℕ) (i : Id) → n ≡ length (groupIn s .pending)
@@ -131,8 +131,8 @@ module _ (cs : List (List ℕ)) (k : ℕ) (i : Id) (left at : ℕ) (s : List ℕ
   unfolding p later arePending
   held-found r a e =
       let x = both-true (isPending cs p) (arePending cs later) (rw (pending-step left cs at s h) at a) in
-      let c : placeOf (p .consumer) cs ≡ getD s (at + 16) 0 =
-      ap (λ (n : List ℕ). placeOf n cs) (consumer-of cs at s)
+      let c : placeOfName (p .consumer) cs ≡ getD s (at + 16) 0 =
+      ap (λ (n : List ℕ). placeOfName n cs) (consumer-of cs at s)
       ∙ place-among cs r (getD s (at + 16) 0) (ap (λ (n : List ℕ). isAmong n cs) (sym (consumer-of cs at s)) ∙ entry cs p (x .0) .among) in
       let t = time-of cs at s in
       let n = count-of cs at s in
@@ -141,7 +141,7 @@ module _ (cs : List (List ℕ)) (k : ℕ) (i : Id) (left at : ℕ) (s : List ℕ
       ∙ held-here e
       ∙ (λ j. Entry (q j) (c j) (t j) (n j))
     where
-      held-here : sameId (idFrom (area at 16 s)) i ≡ true → heldFrom cs k i (p ∷ later) ≡ Entry (k + 0) (placeOf (p .consumer) cs) (p .time) (p .count)
+      held-here : sameId (idFrom (area at 16 s)) i ≡ true → heldFrom cs k i (p ∷ later) ≡ Entry (k + 0) (placeOfName (p .consumer) cs) (p .time) (p .count)
       held-here f = unfold placeOfId findPending in (rw (id-of cs at s, f))
 
 pub held-done : (cs : List (List ℕ)) (k : ℕ) (i : Id) (left at : ℕ) (s : List ℕ) → left ≤ 0 → heldFrom cs k i (allPendingIn left cs (drop at s)) ≡ Missing
@@ -187,7 +187,7 @@ module _ (cs : List (List ℕ)) (rising : namesAbove [] cs ≡ true) (k : ℕ) (
 
   pub next-found : both (eqb (getD (drop at s) 16 0) k) (below after (entryId (drop at s))) ≡ true
       → nextFrom (getD cs k []) after (allPendingIn left cs (drop at s))
-      ≡ nextEntry (getD cs k []) (Given (idFrom (area at 16 s)) (leValue (area (at + 17) 8 s)) (leValue (area (at + 25) 2 s)))
+      ≡ entryGiven (getD cs k []) (Given (idFrom (area at 16 s)) (leValue (area (at + 17) 8 s)) (leValue (area (at + 25) 2 s)))
   next-found e =
       let i = id-of cs at s in
       let x : getD (drop at s) 16 0 ≡ k = eqb-true (getD (drop at s) 16 0) k (both-true (eqb (getD (drop at s) 16 0) k) (below after (entryId (drop at s))) e .0) in

@@ -11,12 +11,12 @@ use lib.Seq.{split-at, length-take-le}
 use Rattle.octets.specs.Bytes.{le}
 use Rattle.octets.specs.Place.{put, spliced}
 use Rattle.id.specs.declared.Id.{Id}
-use Rattle.groups.specs.declared.Held.the-variants.{Entry, Missing}
+use Rattle.groups.specs.declared.PendingEntry.the-variants.{Entry, Missing}
 use Rattle.groups.specs.Group.{Pending, Group, isAmong}
 use Rattle.groups.specs.Bytes.{regionBytes}
 use Rattle.groups.specs.Parse.{groupIn}
-use Rattle.groups.specs.Step.{idle, findPending, acknowledge}
-use Rattle.groups.specs.Answer.{SoundRegion, placeOfId, heldAs, heldIn, lacksConsumer}
+use Rattle.groups.specs.Step.{idle, findPending, acknowledge, lacksConsumer}
+use Rattle.groups.specs.Answer.{SoundRegion, placeOfId, heldAs, heldIn}
 use Rattle.groups.proofs.Laws.{Rules, stands}
 use Rattle.groups_change.specs.Change.{withPending, withoutAt, refusalToDeliver, refusalToClaim, claimMoves}
 use borrow.Author.Tests.{le-leb, lt-leb}

@@ -10,8 +10,7 @@ use Rattle.octets.specs.Bytes.{le}
 use Rattle.id.specs.declared.Id.{Id}
 use Rattle.id.specs.Bytes.{idBytes}
 use Rattle.groups.specs.Group.{Pending, Group, mostPending}
-use Rattle.groups.specs.Step.{idle, withoutName, findPending, claim}
-use Rattle.groups.specs.Answer.{lacksConsumer}
+use Rattle.groups.specs.Step.{idle, withoutName, findPending, claim, lacksConsumer}
 
 -- one part of a group changed
 abbrev pub withPending : List Pending → Group → Group

@@ -26,9 +26,9 @@ use crate::pieces::grown;
 use crate::pieces::idle_for;
 use groups::ENTRIES_AT;
 use groups::ENTRY_BYTES;
-use groups::Held;
+use groups::PendingEntry;
 use groups::MOST_PENDING;
-use groups::Place;
+use groups::NamePlace;
 use id::Id;
 
 // The ID, above the last delivered one, becomes last delivered and pending for the consumer.
@@ -53,7 +53,7 @@ pub fn acknowledge(region: &mut [u8], id: Id) -> u64
     requires { ⌜ SoundRegion (now region) ⌝ }
     ensures { λ r. ⌜ (r ≡ foundCount (step.findPending id (groupIn (now (region .entry)) .pending))) × (now (region .exit) ≡ regionBytes (step.acknowledge id (groupIn (now (region .entry))))) ⌝ }
 {
-    let Held::Entry(at, _, _, _) = groups::find_pending(region, id) else {
+    let PendingEntry::Entry(at, _, _, _) = groups::find_pending(region, id) else {
         return 0;
     };
     remove_entry(region, at);
@@ -65,7 +65,7 @@ pub fn claim(region: &mut [u8], consumer: &[u8], least_idle: u64, id: Id, time: 
     requires { ⌜ SoundRegion (now region) × (1 ≤ length (now consumer)) × (length (now consumer) ≤ longestName) ⌝ }
     ensures { λ r. ⌜ (claimedRefusal r ≡ refusalToClaim (now (consumer .entry)) «least_idle» id time (groupIn (now (region .entry)))) × (isMoved r ≡ claimMoves (now (consumer .entry)) «least_idle» id time (groupIn (now (region .entry)))) × (now (region .exit) ≡ pick (isMoved r) (regionBytes (claimedAs (now (consumer .entry)) time (groupIn (now (region .entry))) (step.findPending id (groupIn (now (region .entry)) .pending)))) (now (region .entry))) ⌝ }
 {
-    let Held::Entry(at, _, since, count) = groups::find_pending(region, id) else {
+    let PendingEntry::Entry(at, _, since, count) = groups::find_pending(region, id) else {
         return Claimed::NotMoved;
     };
     if idle_for(time, since) < least_idle {
@@ -85,7 +85,7 @@ pub fn drop_consumer(region: &mut [u8], consumer: &[u8]) -> u64
     requires { ⌜ SoundRegion (now region) ⌝ }
     ensures { λ r. ⌜ (r ≡ length (step.pendingOf (now (consumer .entry)) (groupIn (now (region .entry)) .pending))) × (now (region .exit) ≡ regionBytes (step.dropConsumer (now (consumer .entry)) (groupIn (now (region .entry))))) ⌝ }
 {
-    let Place::At(k) = groups::find_consumer(region, consumer) else {
+    let NamePlace::At(k) = groups::find_consumer(region, consumer) else {
         return 0;
     };
     let gone = remove_entries(region, k);

@@ -17,7 +17,6 @@ use Rattle.node.specs.Message.{Pair, Message, message}
 use Rattle.node.specs.Step.{fitsAlone, findMessage, firstFrom, firstAfter, valueOf}
 use Rattle.groups.specs.Group.{Pending, Group, isName, mostPending}
 use Rattle.groups.specs.Area.{mostGroups}
-use Rattle.groups.specs.Answer.{lacksConsumer}
 use Rattle.groups.specs.Step as Groups
 use Rattle.stream.specs.Ledger.{Ledger}
 use Rattle.stream.specs.Cut.{freshCut}
@@ -104,7 +103,7 @@ group-fits (Stream.groupRead consumer time) ms g = by (firstAfter (g .delivered)
     by : (o : Option Message) → FitsGroup (delivers consumer time o g)
     by none = tt
     by (some m) =
-        pick-by FitsGroup (lacksConsumer consumer g) (leaves (refused 12) g) _ (λ e. tt)
+        pick-by FitsGroup (Groups.lacksConsumer consumer g) (leaves (refused 12) g) _ (λ e. tt)
         (λ e. pick-by FitsGroup (leb mostPending (length (g .pending))) (leaves (refused 13) g) _ (λ f. tt) (λ f. tt))
 group-fits (Stream.acknowledge i) ms g = by (Groups.findPending i (g .pending))
   where
@@ -117,7 +116,7 @@ group-fits (Stream.claim consumer least i time) ms g = by (Groups.findPending i 
     by none = tt
     by (some p) =
         pick-by FitsGroup (leb least (Groups.idle time (p .time))) _ (leaves notMoved g)
-        (λ e. pick-by FitsGroup (lacksConsumer consumer g) (leaves (refused 12) g) _ (λ f. tt) (λ f. tt)) (λ e. tt)
+        (λ e. pick-by FitsGroup (Groups.lacksConsumer consumer g) (leaves (refused 12) g) _ (λ f. tt) (λ f. tt)) (λ e. tt)
 group-fits (Stream.nextPending consumer i) ms g = by (Groups.nextPending consumer i g)
   where
     by : (o : Option Pending) → Fits 0 (pendingReply ms o)

@@ -25,7 +25,6 @@ use Rattle.node.specs.Message.{Pair, Message, isMessage, message}
 use Rattle.node.specs.Step.{fitsAlone, findMessage, firstAfter, withoutMessage}
 use Rattle.groups.specs.Group.{Pending, Group, isName, mostPending}
 use Rattle.groups.specs.Area.{areaBytes, parseArea, isGroups, mostGroups}
-use Rattle.groups.specs.Answer.{lacksConsumer}
 use Rattle.groups.specs.Step as Groups
 use Rattle.groups.proofs.Laws.{area-parse, put-found-same, deliver-groups, acknowledge-groups, claim-groups, drop-groups, create-groups, destroy-groups}
 use Rattle.stream.specs.Ledger.{Ledger, withMessages, messagesAbove}
@@ -72,7 +71,7 @@ refused-leaves (Stream.groupRead consumer time) ms g = by (firstAfter (g .delive
     by : (o : Option Message) → Leaves g (delivers consumer time o g)
     by none = λ _. refl
     by (some x) =
-        pick-by (Leaves g) (lacksConsumer consumer g) (leaves (refused 12) g) _ (λ _ _. refl)
+        pick-by (Leaves g) (Groups.lacksConsumer consumer g) (leaves (refused 12) g) _ (λ _ _. refl)
         (λ _. pick-by (Leaves g) (leb mostPending (length (g .pending))) (leaves (refused 13) g) _ (λ _ _. refl) (λ _ z. absurd (never z refl)))
 refused-leaves (Stream.acknowledge i) ms g = by (Groups.findPending i (g .pending))
   where
@@ -85,7 +84,7 @@ refused-leaves (Stream.claim consumer idle i time) ms g = by (Groups.findPending
     by none = λ _. refl
     by (some p) =
         pick-by (Leaves g) (leb idle (Groups.idle time (p .time))) _ (leaves Stream.notMoved g)
-        (λ _. pick-by (Leaves g) (lacksConsumer consumer g) (leaves (refused 12) g) _ (λ _ _. refl) (λ _ z. absurd (never z refl))) (λ _ _. refl)
+        (λ _. pick-by (Leaves g) (Groups.lacksConsumer consumer g) (leaves (refused 12) g) _ (λ _ _. refl) (λ _ z. absurd (never z refl))) (λ _ _. refl)
 refused-leaves (Stream.nextPending consumer i) ms g = λ _. refl
 refused-leaves (Stream.dropConsumer consumer) ms g = λ z. absurd (never z refl)
 
@@ -234,7 +233,7 @@ module _ (slots : ℕ) (m : Model) (e : isModel slots m ≡ true) where
         by none p = keeps-same
         by (some x) p =
             let y = first-facts (g .delivered) least (m .last) (messagesOf (m .nodes)) x (ledger-rules (ledgerOf m) (model-ledger slots m e) .messages-are) p in
-            pick-by Keeps (lacksConsumer consumer g) (leaves (refused 12) g) _ (λ _. keeps-same)
+            pick-by Keeps (Groups.lacksConsumer consumer g) (leaves (refused 12) g) _ (λ _. keeps-same)
             (λ l. pick-by Keeps (leb mostPending (length (g .pending))) (leaves (refused 13) g) _ (λ _. keeps-same)
             (λ n. deliver-groups (m .last) (m .groups) groups-are name g f consumer time (x .id) a t (y .fits) (y .above) (y .up-to) l (leb-false mostPending (length (g .pending)) n)))
     group-keeps (Stream.acknowledge i) t a = by (Groups.findPending i (g .pending))
@@ -248,7 +247,7 @@ module _ (slots : ℕ) (m : Model) (e : isModel slots m ≡ true) where
         by none p = keeps-same
         by (some x) p =
             pick-by Keeps (leb idle (Groups.idle time (x .time))) _ (leaves Stream.notMoved g)
-            (λ _. pick-by Keeps (lacksConsumer consumer g) (leaves (refused 12) g) _ (λ _. keeps-same) (λ l. claim-groups (m .last) (m .groups) groups-are name g f consumer time i x a t p l))
+            (λ _. pick-by Keeps (Groups.lacksConsumer consumer g) (leaves (refused 12) g) _ (λ _. keeps-same) (λ l. claim-groups (m .last) (m .groups) groups-are name g f consumer time i x a t p l))
             (λ _. keeps-same)
     group-keeps (Stream.nextPending consumer i) t a = keeps-same
     group-keeps (Stream.dropConsumer consumer) t a = drop-groups (m .last) (m .groups) groups-are name g f consumer

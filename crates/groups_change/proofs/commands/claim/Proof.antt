@@ -11,7 +11,7 @@ use Rattle.octets.specs.Place.{put}
 use Rattle.groups.specs.Group.{Pending, isName}
 use Rattle.groups.specs.Bytes.{regionBytes}
 use Rattle.groups.specs.Parse.{groupIn}
-use Rattle.groups.specs.Answer.{lacksConsumer}
+use Rattle.groups.specs.Step.{lacksConsumer}
 use Rattle.groups.proofs.Laws.{is-name, sound-tested, stands, rules}
 use Rattle.groups_change.specs.Change.{claimedAs}
 use Rattle.groups_change.proofs.Changes.{HeldEntry, held-entry, held-missing, claim-missing, claim-busy, claim-12, claim-moved}
