@@ -104,7 +104,7 @@ module _ (c : List ℕ) (least : ℕ) (i : Id) (t : ℕ) (s : List ℕ) where
     pub claim-by : isShort c ≡ true → (d : Option ℕ) (b : Bool) → d ≡ refusalToClaim c least i t (groupIn s) → b ≡ claimMoves c least i t (groupIn s)
         → Is (claims c least i t s) (claimNumber d b) (pick b (regionBytes (claimedAs c t (groupIn s) (step.findPending i (groupIn s .pending)))) s)
     unfolding claims
-    claim-by f d b q m = (rw (e, f, q, m), rw (e, f, q, m))
+    claim-by f d b q m = (rw (e, f, q, m), rw (e, f, m))
 
 module _ (c s : List ℕ) where
   pub drop-bad : soundIn s ≡ false → Is (drops c s) 0 s

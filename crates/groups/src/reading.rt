@@ -19,11 +19,11 @@ use crate::ENTRIES_AT;
 use crate::ENTRY_BYTES;
 use crate::FIELD_BYTES;
 use crate::FIELDS_AT;
-use crate::PendingEntry;
+use crate::NamePlace;
 use crate::NextEntry;
 use crate::PENDING_AT;
 use crate::PLACE_AT;
-use crate::NamePlace;
+use crate::PendingEntry;
 use crate::Spot;
 use crate::TIME_AT;
 use id::Id;
@@ -93,7 +93,12 @@ pub fn find_pending(region: &[u8], id: Id) -> PendingEntry
         if id::read_id(region, at).is_same(id) {
             let consumer = octets::wide(region[at + PLACE_AT]) as usize;
             let time = octets::read_le(region, at + TIME_AT, 8);
-            return PendingEntry::Entry(k, consumer, time, octets::read_le(region, at + COUNT_AT, 2));
+            return PendingEntry::Entry(
+                k,
+                consumer,
+                time,
+                octets::read_le(region, at + COUNT_AT, 2),
+            );
         }
         at += ENTRY_BYTES;
         k += 1;

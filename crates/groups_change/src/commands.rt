@@ -26,9 +26,9 @@ use crate::pieces::grown;
 use crate::pieces::idle_for;
 use groups::ENTRIES_AT;
 use groups::ENTRY_BYTES;
-use groups::PendingEntry;
 use groups::MOST_PENDING;
 use groups::NamePlace;
+use groups::PendingEntry;
 use id::Id;
 
 // The ID, above the last delivered one, becomes last delivered and pending for the consumer.
