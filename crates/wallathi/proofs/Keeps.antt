@@ -25,16 +25,15 @@ use Rattle.node.specs.Message.{Pair, Message, isMessage, message}
 use Rattle.node.specs.Step.{fitsAlone, findMessage, firstAfter, withoutMessage}
 use Rattle.groups.specs.Group.{Pending, Group, isName, mostPending}
 use Rattle.groups.specs.Area.{areaBytes, parseArea, isGroups, mostGroups}
-use Rattle.groups.specs.Answer.{lacksConsumer}
 use Rattle.groups.specs.Step as Groups
 use Rattle.groups.proofs.Laws.{area-parse, put-found-same, deliver-groups, acknowledge-groups, claim-groups, drop-groups, create-groups, destroy-groups}
 use Rattle.stream.specs.Ledger.{Ledger, withMessages, messagesAbove}
 use Rattle.stream.specs.Cut.{Node, Model, messagesOf, ledgerOf, isModel, addMessage, lacksSlot, deleteOldest}
 use Rattle.stream.specs.Command as Stream
 use Rattle.stream.specs.Command.{Answer, isRefusal, refused, done, counted}
-use Rattle.stream.specs.LedgerStep.{GroupStep, leaves, clockId, onCreate, onGroup, onTrim, delivers, acknowledges, claims, areArguments}
+use Rattle.stream.specs.LedgerStep.{GroupStep, leaves, clockId, onCreate, onGroup, onTrim, delivers, acknowledges, claims, nameRefusal, argumentRefusal, requestRefusal}
 use Rattle.stream.specs.Step.{Step, step}
-use Rattle.stream.proofs.Laws.{model-rules, model-ledger, ledger-rules, model-of, model-keep, model-delete, model-trim, model-add, renoded, stepOf, regrouped, step-refused, step-stays, step-groups, step-goes, step-asks, step-unruled, step-no-group, step-in-group, Adds, adds-by-id, clock-above, add-no-slip, clock-no-slip, add-low, clock-exhausted, add-large, add-full, add-goes, delete-none, trim-none, messages-delete, messages-oldest, messages-add, delete-differs, trim-differs, add-differs}
+use Rattle.stream.proofs.Laws.{model-rules, model-ledger, ledger-rules, model-of, model-keep, model-delete, model-trim, model-add, renoded, stepOf, regrouped, step-refused, step-stays, step-groups, step-goes, step-asks, name-kept, second-kept, step-unruled, step-no-group, step-in-group, Adds, adds-by-id, clock-above, add-no-slip, clock-no-slip, add-low, clock-exhausted, add-large, add-full, add-goes, delete-none, trim-none, messages-delete, messages-oldest, messages-add, delete-differs, trim-differs, add-differs}
 use Rattle.snapshot.specs.Command.{isSetUp}
 use Rattle.wallathi.specs.Demands.{PassesGroup, PassesStream}
 
@@ -72,7 +71,7 @@ refused-leaves (Stream.groupRead consumer time) ms g = by (firstAfter (g .delive
     by : (o : Option Message) → Leaves g (delivers consumer time o g)
     by none = λ _. refl
     by (some x) =
-        pick-by (Leaves g) (lacksConsumer consumer g) (leaves (refused 12) g) _ (λ _ _. refl)
+        pick-by (Leaves g) (Groups.lacksConsumer consumer g) (leaves (refused 12) g) _ (λ _ _. refl)
         (λ _. pick-by (Leaves g) (leb mostPending (length (g .pending))) (leaves (refused 13) g) _ (λ _ _. refl) (λ _ z. absurd (never z refl)))
 refused-leaves (Stream.acknowledge i) ms g = by (Groups.findPending i (g .pending))
   where
@@ -85,7 +84,7 @@ refused-leaves (Stream.claim consumer idle i time) ms g = by (Groups.findPending
     by none = λ _. refl
     by (some p) =
         pick-by (Leaves g) (leb idle (Groups.idle time (p .time))) _ (leaves Stream.notMoved g)
-        (λ _. pick-by (Leaves g) (lacksConsumer consumer g) (leaves (refused 12) g) _ (λ _ _. refl) (λ _ z. absurd (never z refl))) (λ _ _. refl)
+        (λ _. pick-by (Leaves g) (Groups.lacksConsumer consumer g) (leaves (refused 12) g) _ (λ _ _. refl) (λ _ z. absurd (never z refl))) (λ _ _. refl)
 refused-leaves (Stream.nextPending consumer i) ms g = λ _. refl
 refused-leaves (Stream.dropConsumer consumer) ms g = λ z. absurd (never z refl)
 
@@ -227,16 +226,16 @@ module _ (slots : ℕ) (m : Model) (e : isModel slots m ≡ true) where
     keeps-same : isGroups (m .last) (Groups.putGroup g (m .groups)) ≡ true
     keeps-same = ap (isGroups (m .last)) (put-found-same name g (m .last) (m .groups) groups-are f) ∙ groups-are
 
-    group-keeps : (c : Stream.GroupCommand) → PassesGroup c → areArguments c ≡ true → Keeps (onGroup c (messagesOf (m .nodes)) g)
+    group-keeps : (c : Stream.GroupCommand) → PassesGroup c → argumentRefusal c ≡ none → Keeps (onGroup c (messagesOf (m .nodes)) g)
     group-keeps (Stream.groupRead consumer time) t a = by (firstAfter (g .delivered) (messagesOf (m .nodes))) refl
       where
         by : (o : Option Message) → firstAfter (g .delivered) (messagesOf (m .nodes)) ≡ o → Keeps (delivers consumer time o g)
         by none p = keeps-same
         by (some x) p =
             let y = first-facts (g .delivered) least (m .last) (messagesOf (m .nodes)) x (ledger-rules (ledgerOf m) (model-ledger slots m e) .messages-are) p in
-            pick-by Keeps (lacksConsumer consumer g) (leaves (refused 12) g) _ (λ _. keeps-same)
+            pick-by Keeps (Groups.lacksConsumer consumer g) (leaves (refused 12) g) _ (λ _. keeps-same)
             (λ l. pick-by Keeps (leb mostPending (length (g .pending))) (leaves (refused 13) g) _ (λ _. keeps-same)
-            (λ n. deliver-groups (m .last) (m .groups) groups-are name g f consumer time (x .id) a t (y .fits) (y .above) (y .up-to) l (leb-false mostPending (length (g .pending)) n)))
+            (λ n. deliver-groups (m .last) (m .groups) groups-are name g f consumer time (x .id) (name-kept consumer a) t (y .fits) (y .above) (y .up-to) l (leb-false mostPending (length (g .pending)) n)))
     group-keeps (Stream.acknowledge i) t a = by (Groups.findPending i (g .pending))
       where
         by : (o : Option Pending) → Keeps (acknowledges i o g)
@@ -248,21 +247,21 @@ module _ (slots : ℕ) (m : Model) (e : isModel slots m ≡ true) where
         by none p = keeps-same
         by (some x) p =
             pick-by Keeps (leb idle (Groups.idle time (x .time))) _ (leaves Stream.notMoved g)
-            (λ _. pick-by Keeps (lacksConsumer consumer g) (leaves (refused 12) g) _ (λ _. keeps-same) (λ l. claim-groups (m .last) (m .groups) groups-are name g f consumer time i x a t p l))
+            (λ _. pick-by Keeps (Groups.lacksConsumer consumer g) (leaves (refused 12) g) _ (λ _. keeps-same) (λ l. claim-groups (m .last) (m .groups) groups-are name g f consumer time i x (name-kept consumer a) t p l))
             (λ _. keeps-same)
     group-keeps (Stream.nextPending consumer i) t a = keeps-same
     group-keeps (Stream.dropConsumer consumer) t a = drop-groups (m .last) (m .groups) groups-are name g f consumer
 
   group-outcome : (name : List ℕ) (c : Stream.GroupCommand) → PassesGroup c → Outcome slots (step slots (Stream.inGroup name c) m) m
-  group-outcome name c t = by (both (isName name) (areArguments c)) refl (Groups.findGroup name (m .groups)) refl
+  group-outcome name c t = by (requestRefusal name c) refl (Groups.findGroup name (m .groups)) refl
     where
-      by : (r : Bool) → both (isName name) (areArguments c) ≡ r → (o : Option Group) → Groups.findGroup name (m .groups) ≡ o → Outcome slots (step slots (Stream.inGroup name c) m) m
-      by false r o p = same-model _ (refused 3) (step-unruled slots name c m r)
-      by true r none p = same-model _ (refused 9) (step-no-group slots name c m r p)
-      by true r (some g) p =
+      by : (r : Option ℕ) → requestRefusal name c ≡ r → (o : Option Group) → Groups.findGroup name (m .groups) ≡ o → Outcome slots (step slots (Stream.inGroup name c) m) m
+      by (some n) r o p = same-model _ (refused n) (step-unruled slots name c m n r)
+      by none r none p = same-model _ (refused 9) (step-no-group slots name c m r p)
+      by none r (some g) p =
           let s = onGroup c (messagesOf (m .nodes)) g in
           regroups _ (s .answer) (Groups.putGroup (s .after) (m .groups)) (step-in-group slots name c m g (s .after) (s .answer) r p refl)
-          (group-keeps name g p c t (both-true (isName name) (areArguments c) r .1))
+          (group-keeps name g p c t (second-kept (nameRefusal name) (argumentRefusal c) r))
           (λ z.
           ap (λ (h : Group). Groups.putGroup h (m .groups)) (refused-leaves c (messagesOf (m .nodes)) g z) ∙ put-found-same name g (m .last) (m .groups) groups-are p)
 
