@@ -50,6 +50,9 @@ extern "C" {
 /* A store has as many slots as fit its length, 64 at most. */
 #define WALLATHI_SLOT_BYTES 4096
 #define WALLATHI_MOST_SLOTS 64
+/* A message has 1 to this many pairs; a field and a value have 0 to this many bytes each. */
+#define WALLATHI_MOST_PAIRS 32
+#define WALLATHI_LONGEST_STRING 1000
 /* An output of this length suffices for every read, and for every value that field writes. */
 #define WALLATHI_LONGEST_SLIP 5353
 /* An output of this length suffices for every save. */
