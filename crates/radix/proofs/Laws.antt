@@ -15,7 +15,7 @@ use lib.Dec.{leb}
 use lib.ListN.{length, getD}
 use Rattle.radix.specs.declared.Index.{Index}
 use Rattle.keys.specs.Entries.{Entry, isMap, rising, allFit}
-use Rattle.radix.specs.Shape.{Shape, nil, node, shape, nodes, entriesIn}
+use Rattle.radix.specs.Shape.{Shape, nil, node, shape, nodes, entriesBelow}
 use Rattle.radix.specs.Record.{treeOf, isPlaced, heldIn, entriesOf, entries-is, nodesOf}
 use Rattle.radix.specs.Gathering.{withOwn, gathered}
 use Rattle.radix.specs.Layout.{blank, placeShape, recordOf, record-is}
@@ -114,7 +114,7 @@ record-fields es m = fields-of es m (labels-short [] (shape es) [] es (shape-gat
 pub keys-bytes : (x : Index) (es : List Entry) → Bytes (x .label) → entriesOf x ≡ some es → Keys Bytes es
 keys-bytes x es h e =
     let k = holds x es e in
-    subst (Keys Bytes) (ap (entriesIn []) (k .tree) ∙ shape-back es (k .map))
+    subst (Keys Bytes) (ap (entriesBelow []) (k .tree) ∙ shape-back es (k .map))
     (entries-bytes [] (treeOf x) bytes-nil (tree-bytes 256 (nodesOf x) (getD (x .child) (x .root) 0) h))
 
 -- and so are the fields of a record made of a map whose keys are bytes

@@ -30,7 +30,7 @@ use Rattle.octets.specs.Bytes.{zeros}
 use Rattle.octets.specs.Place.{area}
 use Rattle.octets.specs.Compare.{allZero, same}
 use Rattle.keys.specs.Entries.{Entry, isMap}
-use Rattle.radix.specs.Shape.{Shape, nil, node, entriesIn, shape}
+use Rattle.radix.specs.Shape.{Shape, nil, node, entriesBelow, shape}
 use Rattle.radix.specs.declared.Index.{Index}
 use Rattle.keys.specs.Table.{lengthOf}
 
@@ -129,7 +129,7 @@ sameShape (node l v b t) (node m w c u) = both (both (same l m) (sameValue v w))
 
 -- the entries of a tree that is the shape of them
 unfoldable pub heldIn : Shape → Option (List Entry)
-heldIn t = need (both (isMap (entriesIn [] t)) (sameShape t (shape (entriesIn [] t)))) >> some (entriesIn [] t)
+heldIn t = need (both (isMap (entriesBelow [] t)) (sameShape t (shape (entriesBelow [] t)))) >> some (entriesBelow [] t)
 
 -- the tree below the root
 abbrev pub treeOf : Index → Shape

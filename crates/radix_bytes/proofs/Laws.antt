@@ -6,9 +6,9 @@ use native.Mathlib.Omega.{arith}
 use lib.ListN.{length, length-append}
 use Rattle.octets.specs.Bytes.{Bytes, le, leValue}
 use Rattle.octets.specs.Place.{area, put}
-use Rattle.octets.proofs.Laws.{length-le, value-le, le-value, length-area, bytes-area, bytes-append, bytes-le, area-add, area-all, area-left, area-right, area-append-right, area-after, put-append, put-all, put-area, length-put}
+use Rattle.octets.proofs.Laws.{length-le, value-le, le-value, length-area, bytes-area, bytes-append, bytes-le, area-add, area-all, area-left, area-right, area-append-right, put-append, put-all}
 use Rattle.radix.specs.declared.Index.{Index}
-use Rattle.radix_bytes.specs.Bytes.{wordBytes, wordsAt, bytesOf, recordFrom, Fit}
+use Rattle.radix_bytes.specs.Bytes.{wordBytes, wordsAt, bytesOf, recordFrom, Fit, recordSize, childrenAt, valuesAt, labelsAt}
 use Rattle.radix_bytes.proofs.Words.{length-words, words-right, words-back, words-again, bytes-words}
 pub use Rattle.radix_bytes.proofs.Places.{len-of, key-of, child-of, next-of, value-of, label-of, label-in, label-size}
 
@@ -98,38 +98,27 @@ put-next s at a p b e h = ap (λ (i : ℕ). put (put s at a) i b) (sym e) ∙ pu
 pub two-written : (s o q : List ℕ) (at : ℕ) (a : List ℕ) (p : ℕ) (b : List ℕ) → at + length a ≡ p → at ≤ length s → o ≡ put s at a → q ≡ put o p b → q ≡ put s at (a ++ b)
 two-written s o q at a p b e h f g = g ∙ ap (λ (y : List ℕ). put y p b) f ∙ put-next s at a p b e h
 
--- the parts before the labels written one after the other
-pub fields-written : (x : Index) (s o p q : List ℕ) → length s ≡ 6658 → length (x .len) ≡ 256 → length (x .key) ≡ 256 → length (x .child) ≡ 256 → length (x .next) ≡ 256 → length (x .val) ≡ 256 → x .label ≡ area 2562 4096 s
-    → o ≡ put s 0 (le 2 (x .root) ++ (x .len ++ x .key)) → p ≡ put o 514 (wordBytes 2 (x .child) ++ wordBytes 2 (x .next)) → q ≡ put p 1538 (wordBytes 4 (x .val)) → q ≡ bytesOf x
+-- the parts written one after the other
+pub parts-written : (x : Index) (s o p q r : List ℕ) → length s ≡ recordSize → length (x .len) ≡ 256 → length (x .key) ≡ 256 → length (x .child) ≡ 256 → length (x .next) ≡ 256 → length (x .val) ≡ 256 → length (x .label) ≡ 4096
+    → o ≡ put s 0 (le 2 (x .root) ++ (x .len ++ x .key)) → p ≡ put o childrenAt (wordBytes 2 (x .child) ++ wordBytes 2 (x .next)) → q ≡ put p valuesAt (wordBytes 4 (x .val)) → r ≡ put q labelsAt (x .label) → r ≡ bytesOf x
 unfolding bytesOf
-fields-written x s o p q z l k c n v b eo ep eq =
+parts-written x s o p q r z l k c n v b eo ep eq er =
     let a : List ℕ = le 2 (x .root) in
     let wc : List ℕ = wordBytes 2 (x .child) in
     let wn : List ℕ = wordBytes 2 (x .next) in
     let wv : List ℕ = wordBytes 4 (x .val) in
+    let h : List ℕ = a ++ (x .len ++ x .key) in
+    let t : List ℕ = h ++ (wc ++ wn) in
+    let u : List ℕ = t ++ wv in
     let la : length a ≡ 2 = length-le 2 (x .root) in
     let lc : length wc ≡ 512 = wide-words 2 256 512 (x .child) c refl in
     let ln : length wn ≡ 512 = wide-words 2 256 512 (x .next) n refl in
     let lv : length wv ≡ 1024 = wide-words 4 256 1024 (x .val) v refl in
-    let lb : length (x .label) ≡ 4096 = ap length b ∙ length-area 2562 4096 s (omega arith) in
-    let lh : length (a ++ (x .len ++ x .key)) ≡ 514 = simp length-append (omega (arith, la, l, k)) in
-    let lt : length (wc ++ wn) ≡ 1024 = simp length-append (omega (arith, lc, ln)) in
-    let zo : length o ≡ 6658 = ap length eo ∙ length-put s 0 (a ++ (x .len ++ x .key)) (omega arith) ∙ z in
-    let zp : length p ≡ 6658 = ap length ep ∙ length-put o 514 (wc ++ wn) (omega arith) ∙ zo in
-    let zq : length q ≡ 6658 = ap length eq ∙ length-put p 1538 wv (omega arith) ∙ zp in
-    let stays : area 2562 4096 q ≡ x .label =
-    ap (area 2562 4096) eq ∙ area-after p 1538 wv (omega arith) 2562 4096 (omega arith)
-    ∙ ap (area 2562 4096) ep ∙ area-after o 514 (wc ++ wn) (omega arith) 2562 4096 (omega arith)
-    ∙ ap (area 2562 4096) eo ∙ area-after s 0 (a ++ (x .len ++ x .key)) (omega arith) 2562 4096 (omega arith)
-    ∙ sym b in
-    let j : 1538 + length wv ≡ 2562 = omega arith in
-    let g : length ((a ++ (x .len ++ x .key)) ++ (wc ++ wn)) ≡ 1538 = simp length-append (omega (arith, la, l, k, lc, ln)) in
-    let h : length (((a ++ (x .len ++ x .key)) ++ (wc ++ wn)) ++ (wv ++ x .label)) ≡ 6658 = simp length-append (omega (arith, la, l, k, lc, ln, lv, lb)) in
-    sym (put-area q 2562 4096 (omega arith))
-    ∙ ap₂ (λ (i : ℕ) (y : List ℕ). put q i y) (sym j) stays
-    ∙ ap (λ (y : List ℕ). put y (1538 + length wv) (x .label)) eq
-    ∙ put-append p 1538 wv (x .label) (omega arith)
-    ∙ ap (λ (y : List ℕ). put y 1538 (wv ++ x .label)) (ep ∙ ap (λ (y : List ℕ). put y 514 (wc ++ wn)) eo ∙ put-next s 0 (a ++ (x .len ++ x .key)) 514 (wc ++ wn) (omega (arith, lh)) (omega arith))
-    ∙ put-next s 0 ((a ++ (x .len ++ x .key)) ++ (wc ++ wn)) 1538 (wv ++ x .label) (omega (arith, g)) (omega arith)
-    ∙ put-all s (((a ++ (x .len ++ x .key)) ++ (wc ++ wn)) ++ (wv ++ x .label)) (h ∙ sym z)
+    let lh : length h ≡ 514 = simp length-append (omega (arith, la, l, k)) in
+    let lt : length t ≡ 1538 = length-append h (wc ++ wn) ∙ (simp length-append (omega (arith, lh, lc, ln))) in
+    let lu : length u ≡ 2562 = length-append t wv ∙ (omega (arith, lt, lv)) in
+    let lz : length (u ++ x .label) ≡ length s = length-append u (x .label) ∙ (omega (arith, lu, b, z)) in
+    two-written s q r 0 u labelsAt (x .label) (omega (arith, lu)) (omega arith)
+    (two-written s p q 0 t valuesAt wv (omega (arith, lt)) (omega arith) (two-written s o p 0 h childrenAt (wc ++ wn) (omega (arith, lh)) (omega arith) eo ep) eq) er
+    ∙ put-all s (u ++ x .label) lz
     ∙ simp append-assoc

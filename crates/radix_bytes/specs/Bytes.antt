@@ -11,6 +11,25 @@ use Rattle.octets.specs.Place.{area}
 use Rattle.radix.specs.declared.Index.{Index}
 use Rattle.radix.specs.Record.{Nodes, nodesOf}
 
+-- where each field begins, but the root's place
+abbrev pub lensAt : ℕ
+lensAt = 2
+
+abbrev pub keysAt : ℕ
+keysAt = 258
+
+abbrev pub childrenAt : ℕ
+childrenAt = 514
+
+abbrev pub nextsAt : ℕ
+nextsAt = 1026
+
+abbrev pub valuesAt : ℕ
+valuesAt = 1538
+
+abbrev pub labelsAt : ℕ
+labelsAt = 2562
+
 abbrev pub recordSize : ℕ
 recordSize = 6658
 
@@ -33,12 +52,12 @@ unfoldable pub recordFrom : List ℕ → Index
 recordFrom s =
     record {
       root = leValue (area 0 2 s);
-      len = area 2 256 s;
-      key = area 258 256 s;
-      child = wordsAt 2 s 514 256;
-      next = wordsAt 2 s 1026 256;
-      val = wordsAt 4 s 1538 256;
-      label = area 2562 4096 s;
+      len = area lensAt 256 s;
+      key = area keysAt 256 s;
+      child = wordsAt 2 s childrenAt 256;
+      next = wordsAt 2 s nextsAt 256;
+      val = wordsAt 4 s valuesAt 256;
+      label = area labelsAt 4096 s;
     }
 
 -- the pool in it
