@@ -1,10 +1,10 @@
-# Both libraries with their headers, manual pages and pkg-config files. `make install PREFIX=/usr DESTDIR=..`
+# The libraries with their headers, manual pages and pkg-config files. `make install PREFIX=/usr DESTDIR=..`
 PREFIX = /usr/local
 DESTDIR =
 VERSION := $(shell cat VERSION)
 INSTALL = install
 
-libraries = wallathi wallathi_index
+libraries = wallathi wallathi_index wallathi_text
 archives = $(libraries:%=target/staticlib/lib%.a)
 pages = $(libraries:%=target/man/%.3)
 packages = $(libraries:%=target/pkgconfig/%.pc)
@@ -14,6 +14,13 @@ all: $(archives) $(pages) $(packages)
 # The proofs run first.
 target/staticlib/lib%.a:
 	rt staticlib $*
+
+# Plain C beside the proved libraries.
+target/staticlib/libwallathi_text.a: host/text/wallathi_text.c $(libraries:%=host/include/%.h)
+	mkdir -p target/staticlib
+	$(CC) -std=c99 -O2 -Wall -Wextra -Ihost/include -c $< -o target/staticlib/wallathi_text.o
+	$(AR) rcs $@ target/staticlib/wallathi_text.o
+	rm target/staticlib/wallathi_text.o
 
 target/man/%.3: host/include/%.h host/manpage
 	mkdir -p target/man
@@ -26,6 +33,7 @@ target/pkgconfig/%.pc: Makefile VERSION
 
 description_wallathi = A proved message store in lent bytes
 description_wallathi_index = A proved index of up to 64 keys in lent bytes
+description_wallathi_text = The answers of both in words
 
 install: all
 	$(INSTALL) -d $(DESTDIR)$(PREFIX)/lib/pkgconfig $(DESTDIR)$(PREFIX)/include $(DESTDIR)$(PREFIX)/share/man/man3

@@ -192,7 +192,6 @@ fn answered(answer: u32) -> Result<bool, Refusal> {
         raw::DAMAGED => Err(Refusal::Damaged),
         raw::BAD_KEY => Err(Refusal::BadKey),
         raw::FULL => Err(Refusal::Full),
-        // An output of 16 bytes is never too short.
         _ => unreachable!("the library answered {answer}"),
     }
 }
