@@ -57,6 +57,7 @@ mod c {
 // borrow rules keep what is written apart from all else.
 
 /// How many bytes a record has.
+#[must_use]
 pub fn record_bytes() -> usize {
     // SAFETY: it takes nothing and answers a number.
     unsafe { c::wallathi_index_record_bytes() as usize }
@@ -67,6 +68,7 @@ fn checked(length: usize) {
 }
 
 /// Makes the record that of an index without keys, whatever its bytes were.
+#[must_use]
 pub fn set_up(record: &mut [u8]) -> u32 {
     checked(record.len());
     // SAFETY: see above.
@@ -74,6 +76,7 @@ pub fn set_up(record: &mut [u8]) -> u32 {
 }
 
 /// Sets the value of a key, new or held.
+#[must_use]
 pub fn put(record: &mut [u8], key: &[u8], value: u32) -> u32 {
     checked(record.len());
     // SAFETY: see above.
@@ -81,6 +84,7 @@ pub fn put(record: &mut [u8], key: &[u8], value: u32) -> u32 {
 }
 
 /// Removes a key; the count is 1, or 0 where it is not held.
+#[must_use]
 pub fn remove(record: &mut [u8], key: &[u8], count: &mut u64) -> u32 {
     checked(record.len());
     // SAFETY: see above.
@@ -88,6 +92,7 @@ pub fn remove(record: &mut [u8], key: &[u8], count: &mut u64) -> u32 {
 }
 
 /// The value of a key.
+#[must_use]
 pub fn find(record: &[u8], key: &[u8], value: &mut u64) -> u32 {
     checked(record.len());
     // SAFETY: see above.
@@ -95,6 +100,7 @@ pub fn find(record: &[u8], key: &[u8], value: &mut u64) -> u32 {
 }
 
 /// The first key that is the given one or comes after it, written to the start of the output.
+#[must_use]
 pub fn first_at_or_above(
     record: &[u8],
     key: &[u8],
@@ -117,6 +123,7 @@ pub fn first_at_or_above(
 }
 
 /// The last key that is the given one or comes before it, written to the start of the output.
+#[must_use]
 pub fn last_at_or_below(
     record: &[u8],
     key: &[u8],
@@ -138,18 +145,18 @@ pub fn last_at_or_below(
     }
 }
 
-#[cfg(test)]
+#[cfg(all(test, feature = "alloc"))]
 mod tests {
     use super::*;
 
     /// A key of no byte is refused wherever its pointer points.
     #[test]
     fn a_null_pointer_to_no_byte() {
-        let mut record = vec![0; record_bytes()];
+        let mut record = alloc::vec![0; record_bytes()];
         assert_eq!(set_up(&mut record), OK);
         let mut value = 7;
         // SAFETY: the header allows NULL where the length is 0.
-        let answer = unsafe { c::wallathi_index_find(record.as_ptr(), std::ptr::null(), 0, &mut value) };
+        let answer = unsafe { c::wallathi_index_find(record.as_ptr(), core::ptr::null(), 0, &mut value) };
         assert_eq!((answer, value), (BAD_KEY, 7));
     }
 }
