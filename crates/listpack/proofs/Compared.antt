@@ -12,9 +12,6 @@ use Rattle.octets.proofs.Laws.{same-refl, same-true}
 use Rattle.decimal.specs.Integer.{patternOf}
 use Rattle.decimal.specs.Text.{textOf}
 use Rattle.decimal.proofs.Laws.{text-of-pattern, pattern-of-text}
-use Rattle.listpack.specs.Read.{parse, parsedBy, holds, readElement}
-use Rattle.listpack.specs.declared.Element.{Element}
-use Rattle.listpack.proofs.Strings.{parse-by}
 
 differ : (a b : List ℕ) → (a ≡ b → ⊥) → same a b ≡ false
 differ a b h = by (same a b) refl
@@ -44,6 +41,3 @@ module _ (p : ℕ) (x : List ℕ) (below : p < 2 ^ 64) where
       let g : _≡_ none (some p) = sym e ∙ ap patternOf (sym f) ∙ pattern-of-text p below in
       let z : _≡_ {A = ℕ} 0 1 = cc in
       omega arith)
-
-pub holds-by : (s x : List ℕ) (e : Element) → readElement s ≡ e → holds (parse s) x ≡ holds (parsedBy s e) x
-holds-by s x e f = ap (λ o. holds o x) (parse-by s e f)
