@@ -19,7 +19,6 @@ fn is_sound(slot: &[u8], key: Id) -> bool
             live: _,
             deleted: _,
             last: _,
-            elements: _,
         } => true,
         Judged::Bad => false,
     }
@@ -34,7 +33,6 @@ fn live_of(slot: &[u8], key: Id) -> usize
             live,
             deleted: _,
             last: _,
-            elements: _,
         } => live,
         Judged::Bad => 0,
     }
