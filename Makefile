@@ -1,10 +1,10 @@
-# Both libraries with their headers, manual pages and pkg-config files. `make install PREFIX=/usr DESTDIR=..`
+# The libraries with their headers, manual pages and pkg-config files. `make install PREFIX=/usr DESTDIR=..`
 PREFIX = /usr/local
 DESTDIR =
-VERSION = 0.1.0
+VERSION := $(shell cat VERSION)
 INSTALL = install
 
-libraries = wallathi wallathi_index
+libraries = wallathi wallathi_index wallathi_text
 archives = $(libraries:%=target/staticlib/lib%.a)
 pages = $(libraries:%=target/man/%.3)
 packages = $(libraries:%=target/pkgconfig/%.pc)
@@ -15,17 +15,25 @@ all: $(archives) $(pages) $(packages)
 target/staticlib/lib%.a:
 	rt staticlib $*
 
+# Plain C beside the proved libraries.
+target/staticlib/libwallathi_text.a: host/text/wallathi_text.c $(libraries:%=host/include/%.h)
+	mkdir -p target/staticlib
+	$(CC) -std=c99 -O2 -Wall -Wextra -Ihost/include -c $< -o target/staticlib/wallathi_text.o
+	$(AR) rcs $@ target/staticlib/wallathi_text.o
+	rm target/staticlib/wallathi_text.o
+
 target/man/%.3: host/include/%.h host/manpage
 	mkdir -p target/man
 	host/manpage $< >$@
 
-target/pkgconfig/%.pc: Makefile
+target/pkgconfig/%.pc: Makefile VERSION
 	mkdir -p target/pkgconfig
 	printf 'prefix=%s\nName: %s\nDescription: %s\nVersion: %s\nCflags: -I$${prefix}/include\nLibs: -L$${prefix}/lib -l%s\n' \
 	    '$(PREFIX)' '$*' '$(description_$*)' '$(VERSION)' '$*' >$@
 
 description_wallathi = A proved message store in lent bytes
 description_wallathi_index = A proved index of up to 64 keys in lent bytes
+description_wallathi_text = The answers of both in words
 
 install: all
 	$(INSTALL) -d $(DESTDIR)$(PREFIX)/lib/pkgconfig $(DESTDIR)$(PREFIX)/include $(DESTDIR)$(PREFIX)/share/man/man3

@@ -1,6 +1,8 @@
 /*
- * How much stack the commands need: each is run on a stack of its own that was filled with a pattern, on a store of 63 full nodes and 7
- * groups. Prints the most bytes that lost the pattern; fails where that is more than the header says.
+ * How much stack the commands need: each is run on a stack of its own that was filled with a pattern. On two stores of 63 nodes: in the one
+ * the nodes are full, and their keys differ in the last byte of ms; in the other each has one message, and their keys are those that nest an
+ * index of 64 keys deepest. And on states whose index is one long chain of all its places, which is refused. Prints the most bytes that
+ * lost the pattern; fails where that is more than the header says.
  */
 #define _XOPEN_SOURCE 700
 #include <stdio.h>
@@ -11,12 +13,27 @@
 
 #define PATTERN 0xB7
 #define STACK (1 << 20)
+#define COMMANDS 17
+#define KEY_BYTES 16
+
+/* Of the index in the state (docs/FORMAT.md). */
+#define PLACES 256
+#define LABEL_LENGTHS_AT 18
+#define KEY_FLAGS_AT 274
+#define CHILDREN_AT 530
+#define SIBLINGS_AT 1042
+
+struct id {
+    uint64_t ms, seq;
+};
 
 static uint8_t store[64 * WALLATHI_SLOT_BYTES], state[WALLATHI_STATE_BYTES];
 static uint8_t copy[64 * WALLATHI_SLOT_BYTES], copied_state[WALLATHI_STATE_BYTES];
 static uint8_t output[WALLATHI_LONGEST_SNAPSHOT], file[WALLATHI_LONGEST_SNAPSHOT];
 static uint8_t stack[STACK];
-static uint8_t slip[1 + 3 * (4 + 1 + 300)];
+static uint8_t slip[1 + 3 * (4 + 1 + 700)];
+static size_t slip_length;
+static struct id new_id, old_id;
 static uint64_t file_length, a, b, c, d, e;
 static int command;
 static uint32_t answer;
@@ -27,57 +44,127 @@ static const uint8_t *const group = (const uint8_t *)"group", *const consumer = 
 static void run(void)
 {
     const size_t n = sizeof copy;
+    const struct id old = old_id;
     switch (command) {
     case 0: answer = wallathi_set_up(copy, n, copied_state); break;
-    case 1: answer = wallathi_add(copy, n, copied_state, 1 << 20, 0, slip, sizeof slip, &a, &b); break;
-    case 2: answer = wallathi_add_by_clock(copy, n, copied_state, 1 << 20, slip, sizeof slip, &a, &b); break;
-    case 3: answer = wallathi_delete(copy, n, copied_state, 1, 0, &a); break;
-    case 4: answer = wallathi_trim(copy, n, copied_state, 3, &a); break;
-    case 5: answer = wallathi_next(copy, n, copied_state, 100, 0, &a, &b); break;
-    case 6: answer = wallathi_read(copy, n, copied_state, 100, 0, output, sizeof output, &a); break;
-    case 7: answer = wallathi_field(copy, n, copied_state, 100, 0, (const uint8_t *)"c", 1, output, sizeof output, &a); break;
+    case 1: answer = wallathi_add(copy, n, copied_state, new_id.ms, new_id.seq, slip, slip_length, &a, &b); break;
+    case 2: answer = wallathi_add_by_clock(copy, n, copied_state, UINT64_MAX, slip, slip_length, &a, &b); break;
+    case 3: answer = wallathi_delete(copy, n, copied_state, old.ms, old.seq, &a); break;
+    case 4: answer = wallathi_trim(copy, n, copied_state, 62, &a); break;
+    case 5: answer = wallathi_next(copy, n, copied_state, old.ms, old.seq, &a, &b); break;
+    case 6: answer = wallathi_read(copy, n, copied_state, old.ms, old.seq, output, sizeof output, &a); break;
+    case 7: answer = wallathi_field(copy, n, copied_state, old.ms, old.seq, (const uint8_t *)"c", 1, output, sizeof output, &a); break;
     case 8: answer = wallathi_destroy_group(copy, n, copied_state, group, 5); break;
     case 9: answer = wallathi_create_group(copy, n, copied_state, consumer, 8, 0, 0); break;
-    case 10: answer = wallathi_acknowledge(copy, n, copied_state, group, 5, 9, 0, &a); break;
+    case 10: answer = wallathi_acknowledge(copy, n, copied_state, group, 5, old.ms, old.seq, &a); break;
     case 11: answer = wallathi_group_read(copy, n, copied_state, group, 5, consumer, 8, 7, &a, &b); break;
-    case 12: answer = wallathi_claim(copy, n, copied_state, group, 5, consumer, 8, 0, 9, 0, 9); break;
-    case 13: answer = wallathi_next_pending(copy, n, copied_state, group, 5, consumer, 8, 3, 0, &a, &b, &c, &d, &e); break;
+    case 12: answer = wallathi_claim(copy, n, copied_state, group, 5, consumer, 8, 0, old.ms, old.seq, 9); break;
+    case 13: answer = wallathi_next_pending(copy, n, copied_state, group, 5, consumer, 8, 0, 0, &a, &b, &c, &d, &e); break;
     case 14: answer = wallathi_drop_consumer(copy, n, copied_state, group, 5, consumer, 8, &a); break;
     case 15: answer = wallathi_save(copy, n, copied_state, output, sizeof output, &a); break;
     default: answer = wallathi_load(copy, n, copied_state, file, (size_t)file_length); break;
     }
 }
 
-/* Messages of three values of 300 bytes, four to a node, so that the next one needs the last free slot; groups that have them all. */
-static void fill(void)
+/* A message of three values of this length. */
+static void make_slip(size_t length)
 {
-    size_t at = 1;
     int pair;
-    uint64_t number;
-
     slip[0] = 3;
+    slip_length = 1;
     for (pair = 0; pair < 3; pair++) {
-        slip[at] = 1;
-        slip[at + 2] = (uint8_t)('a' + pair);
-        slip[at + 3] = 300 & 255;
-        slip[at + 4] = 300 >> 8;
-        memset(slip + at + 5, 'x', 300);
-        at += 305;
+        slip[slip_length] = 1;
+        slip[slip_length + 1] = 0;
+        slip[slip_length + 2] = (uint8_t)('a' + pair);
+        slip[slip_length + 3] = (uint8_t)(length % 256);
+        slip[slip_length + 4] = (uint8_t)(length / 256);
+        memset(slip + slip_length + 5, 'x', length);
+        slip_length += 5 + length;
     }
-    wallathi_set_up(store, sizeof store, state);
-    for (number = 1; number <= 63 * 4; number++)
-        wallathi_add(store, sizeof store, state, number, 0, slip, sizeof slip, &a, &b);
+}
+
+static void add(struct id id)
+{
+    wallathi_add(store, sizeof store, state, id.ms, id.seq, slip, slip_length, &a, &b);
+}
+
+/* Seven groups that have been given so many messages. */
+static void fill_groups(uint64_t messages)
+{
+    uint64_t number, read;
     for (number = 0; number < 7; number++) {
         uint8_t name[5] = "group", other[8] = "consumer";
-        uint64_t read;
         name[4] = (uint8_t)("pabcdef"[number]);
         wallathi_create_group(store, sizeof store, state, name, 5, 0, 0);
-        for (read = 0; read < 63 * 4 - 1; read++) {
+        for (read = 0; read < messages; read++) {
             other[7] = (uint8_t)('g' + read % 15);
             wallathi_group_read(store, sizeof store, state, name, 5, other, 8, 1, &a, &b);
         }
     }
+}
+
+/* Messages of which four make a node, so that the next one needs the last free slot. */
+static void fill_wide(void)
+{
+    struct id id = {1, 0};
+    make_slip(300);
+    wallathi_set_up(store, sizeof store, state);
+    for (; id.ms <= 63 * 4; id.ms++)
+        add(id);
+    fill_groups(63 * 4 - 1);
     wallathi_save(store, sizeof store, state, file, sizeof file, &file_length);
+    new_id.ms = 1 << 20;
+    new_id.seq = 0;
+    old_id.ms = 100;
+    old_id.seq = 0;
+}
+
+/* The keys that nest deepest, by their number: up to 15 one leaves the others at each byte, and the rest differ in the last. */
+static struct id deep_key(unsigned number)
+{
+    struct id id = {0, 0};
+    unsigned byte, common = number < KEY_BYTES - 1 ? number : KEY_BYTES - 1;
+    for (byte = 0; byte < KEY_BYTES; byte++) {
+        uint64_t value = byte < common ? 1 : 0;
+        if (byte == KEY_BYTES - 1)
+            value = 1 + number - common;
+        if (byte < KEY_BYTES / 2)
+            id.ms = id.ms * 256 + value;
+        else
+            id.seq = id.seq * 256 + value;
+    }
+    return id;
+}
+
+/* Messages that make a node each. The snapshot has 64 of them, the store 63. */
+static void fill_deep(void)
+{
+    unsigned number;
+    make_slip(700);
+    wallathi_set_up(store, sizeof store, state);
+    for (number = 0; number < 64; number++)
+        add(deep_key(number));
+    fill_groups(62);
+    wallathi_save(store, sizeof store, state, file, sizeof file, &file_length);
+    old_id = deep_key(63);
+    wallathi_delete(store, sizeof store, state, old_id.ms, old_id.seq, &a);
+    new_id = deep_key(64);
+    old_id = deep_key(1);
+}
+
+/* An index in which each place leads to the next one: as its child, as its sibling, or as both in turn. */
+static void make_chain(int children, int siblings)
+{
+    unsigned place;
+    for (place = 0; place < PLACES; place++) {
+        unsigned link = place + 1 < PLACES ? place + 2 : 0, at = place % 2 ? SIBLINGS_AT : CHILDREN_AT;
+        if (!(children && siblings))
+            at = children ? CHILDREN_AT : SIBLINGS_AT;
+        state[LABEL_LENGTHS_AT + place] = place != 0;
+        state[KEY_FLAGS_AT + place] = place != 0;
+        state[at + 2 * place] = (uint8_t)(link % 256);
+        state[at + 2 * place + 1] = (uint8_t)(link / 256);
+    }
 }
 
 /* The bytes of stack that a command needed. */
@@ -99,17 +186,42 @@ static size_t needed(void)
     return sizeof stack - untouched;
 }
 
-int main(int words, char **word)
+/* The most that a command needed on the store. All but set up and load give this answer. */
+static size_t most_needed(uint32_t expected, int each)
 {
     size_t most = 0;
-
-    fill();
-    for (command = 0; command <= 16; command++) {
+    for (command = 0; command < COMMANDS; command++) {
         size_t bytes = needed();
-        if (words > 1 && strcmp(word[1], "each") == 0)
+        if (each)
             printf("command %d answered %u, %u bytes\n", command, (unsigned)answer, (unsigned)bytes);
+        if (answer != (command == 0 || command == COMMANDS - 1 ? WALLATHI_OK : expected)) {
+            printf("command %d answered %u\n", command, (unsigned)answer);
+            return STACK;
+        }
         if (bytes > most)
             most = bytes;
+    }
+    return most;
+}
+
+static size_t larger(size_t one, size_t other)
+{
+    return one > other ? one : other;
+}
+
+int main(int words, char **word)
+{
+    int each = words > 1 && strcmp(word[1], "each") == 0, chain;
+    size_t most;
+
+    fill_wide();
+    most = most_needed(WALLATHI_OK, each);
+    fill_deep();
+    most = larger(most, most_needed(WALLATHI_OK, each));
+    for (chain = 1; chain < 4; chain++) {
+        wallathi_set_up(store, sizeof store, state);
+        make_chain(chain & 1, chain & 2);
+        most = larger(most, most_needed(WALLATHI_DAMAGED, each));
     }
     printf("%u bytes of stack\n", (unsigned)most);
     return most > WALLATHI_STACK_BYTES;

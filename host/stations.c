@@ -19,7 +19,6 @@ static const char *word(uint32_t answer)
     case WALLATHI_INDEX_OK: return "done";
     case WALLATHI_INDEX_DAMAGED: return "damaged";
     case WALLATHI_INDEX_BAD_KEY: return "not a key";
-    case WALLATHI_INDEX_SHORT_OUTPUT: return "short output";
     case WALLATHI_INDEX_FULL: return "full";
     case WALLATHI_INDEX_NONE: return "none";
     default: return "unknown answer";
@@ -56,7 +55,7 @@ static void last_up_to(const char *name)
 {
     uint8_t found[LONGEST];
     uint64_t length, number;
-    uint32_t answer = wallathi_index_last_at_or_below(record, (const uint8_t *)name, strlen(name), found, LONGEST, &length, &number);
+    uint32_t answer = wallathi_index_last_at_or_below(record, (const uint8_t *)name, strlen(name), found, &length, &number);
     if (answer == WALLATHI_INDEX_OK)
         printf("last up to %s: \"%.*s\" %u\n", name, (int)length, (const char *)found, (unsigned)number);
     else
@@ -87,7 +86,7 @@ static void list(void)
     uint32_t answer = WALLATHI_INDEX_NONE;
 
     while (key_length > 0) {
-        answer = wallathi_index_first_at_or_above(record, key, key_length, found, LONGEST, &length, &number);
+        answer = wallathi_index_first_at_or_above(record, key, key_length, found, &length, &number);
         if (answer != WALLATHI_INDEX_OK)
             break;
         printf("    %-16.*s %4u\n", (int)length, (const char *)found, (unsigned)number);

@@ -1,15 +1,21 @@
 /* Any bytes as commands, arguments, store, state and file: no call may crash, and a call that does not answer 0 may change nothing.
  *
- * With clang: clang -fsanitize=fuzzer,address -Iinclude fuzz/fuzz.c libwallathi.a. With another compiler -DFUZZ_RANDOM adds a main that
- * feeds random bytes: `fuzz ROUNDS`. */
+ * With clang: clang -fsanitize=fuzzer -Iinclude fuzz/fuzz.c fuzz/stores.c libwallathi.a. The library has no counters of its own, so what it answers and
+ * what the store is like afterwards is counted here, where libFuzzer looks (`struct trace`): an input that brings something new is kept.
+ * With another compiler -DFUZZ_RANDOM adds a main that feeds random bytes and changed seeds: `fuzz ROUNDS SEED..`. At the end both write
+ * which answers came to standard error. start.h has the start of an input; seeds.c makes inputs to begin with. */
 #include <stdint.h>
 #include <stdio.h>
 #include <stdlib.h>
 #include <string.h>
 
+#include "start.h"
 #include "wallathi.h"
 
-enum { STORE_BYTES = 3 * WALLATHI_SLOT_BYTES + 100, OUT_BYTES = 40000, VALUES = 5 };
+enum { OUT_BYTES = 40000, VALUES = 5, LOAD = 17, COMMANDS, ANSWERS = 64, SIZES = 65 };
+
+/* Of a group's region in the state (docs/FORMAT.md). */
+enum { REGIONS_AT = 6674, REGION_BYTES = 7220, CONSUMERS_AT = 33, PENDING_AT = 306, GROUPS = 8 };
 
 /* All that a call may change. */
 struct lent {
@@ -18,6 +24,29 @@ struct lent {
 };
 
 static struct lent now, before;
+static size_t store_length;
+
+/* What came up. */
+struct trace {
+    uint8_t answered[COMMANDS][ANSWERS], after[ANSWERS][ANSWERS]; /* by command, and by the answer before */
+    uint8_t number[COMMANDS][SIZES];                              /* how many bits the first number has */
+    uint8_t node_size[SIZES], elements[SIZES];                    /* of each slot: bytes in 256, elements in bits */
+    uint8_t groups[GROUPS + 1], consumers[SIZES], pending[SIZES]; /* pending in 16 */
+};
+
+static struct trace trace __attribute__((section("__libfuzzer_extra_counters"), used));
+
+/* What was ever answered, by command. */
+static uint8_t ever[COMMANDS][ANSWERS];
+
+static unsigned bits(uint64_t n)
+{
+    unsigned bits = 0;
+    for (; n != 0; n /= 2) {
+        bits++;
+    }
+    return bits;
+}
 
 /* What is left of the input; zeros after its end. */
 struct input {
@@ -36,10 +65,11 @@ static uint64_t number(struct input *in, size_t bytes)
     return n;
 }
 
-/* An ID near those in use, or any. */
+/* A half of an ID: small, near those in use, or any. */
 static uint64_t half(struct input *in)
 {
-    return number(in, number(in, 1) % 4 == 0 ? 8 : 1);
+    uint64_t kind = number(in, 1);
+    return kind % 8 > 3 ? kind / 8 % 4 : number(in, kind % 8 == 0 ? 8 : 1);
 }
 
 /* Up to so many bytes of the input, where they lie. */
@@ -54,36 +84,52 @@ static const uint8_t *slice(struct input *in, size_t most, size_t *length)
     return start;
 }
 
-/* A slip of one field, so that adds are accepted often, or bytes of the input as they are. */
+/* A slip of one short value, so that adds are accepted often, of up to five longer ones, or bytes of the input as they are. */
 static const uint8_t *slip(struct input *in, size_t *length)
 {
-    static uint8_t made[] = {1, 1, 0, 'a', 1, 0, '0'};
-    if (number(in, 1) % 4 == 0) {
+    static uint8_t made[1 + 5 * (5 + WALLATHI_LONGEST_STRING)];
+    uint64_t kind = number(in, 1);
+    size_t pair, value = 1;
+    if (kind % 8 == 0) {
         return slice(in, 300, length);
     }
-    made[3] = (uint8_t)('a' + number(in, 1) % 3);
-    made[6] = (uint8_t)number(in, 1);
-    *length = sizeof made;
+    made[0] = 1;
+    *length = 1;
+    if (kind % 8 == 1) {
+        made[0] = (uint8_t)(1 + number(in, 1) % 5);
+        value = (size_t)number(in, 2) % (WALLATHI_LONGEST_STRING + 1);
+    }
+    for (pair = 0; pair < made[0]; pair++) {
+        uint8_t *at = made + *length;
+        at[0] = 1;
+        at[1] = 0;
+        at[2] = (uint8_t)('a' + kind / 8 % 3 + pair);
+        at[3] = (uint8_t)(value % 256);
+        at[4] = (uint8_t)(value / 256);
+        memset(at + 5, (int)(kind / 32 + '0'), value);
+        *length += 5 + value;
+    }
     return made;
 }
 
-/* Names of one letter, or any bytes. */
+/* Names of one letter, the first three most often, or any bytes. */
 static const uint8_t *name(struct input *in, size_t *length)
 {
     static const uint8_t letters[] = "abcdefghijklmnopqrst";
-    if (number(in, 1) % 8 == 0) {
-        return slice(in, 20, length);
+    uint64_t kind = number(in, 1);
+    if (kind % 16 == 0) {
+        return slice(in, WALLATHI_LONGEST_NAME + 4, length);
     }
     *length = 1;
-    return letters + number(in, 1) % 20;
+    return letters + (kind % 2 == 0 ? kind / 16 % 3 : number(in, 1) % 20);
 }
 
-static uint32_t call(struct input *in)
+static uint32_t call(struct input *in, unsigned command)
 {
-    size_t m, n, room = (size_t)number(in, 2) % (OUT_BYTES + 1), size = sizeof now.store;
+    size_t m, n, room = (size_t)number(in, 2) % (OUT_BYTES + 1), size = store_length;
     const uint8_t *a, *b;
     uint64_t *v = now.values, x, y;
-    switch (number(in, 1) % 17) {
+    switch (command) {
     case 0:
         return number(in, 1) % 8 == 0 ? wallathi_set_up(now.store, size, now.state) : 0;
     case 1:
@@ -138,65 +184,221 @@ static uint32_t load(struct input *in)
 {
     static uint8_t file[OUT_BYTES];
     size_t length = (size_t)(now.values[0] % (OUT_BYTES + 1)), changes;
-    if (number(in, 1) % 4 == 0) {
+    if (number(in, 1) % 8 == 0) {
         const uint8_t *any = slice(in, 3000, &length);
-        return wallathi_load(now.store, sizeof now.store, now.state, any, length);
+        return wallathi_load(now.store, store_length, now.state, any, length);
     }
     memcpy(file, now.out, length);
     for (changes = (size_t)number(in, 1) % 3; changes != 0 && length != 0; changes--) {
         file[number(in, 2) % length] ^= (uint8_t)number(in, 1);
     }
-    return wallathi_load(now.store, sizeof now.store, now.state, file, length);
+    return wallathi_load(now.store, store_length, now.state, file, length);
+}
+
+/* The byte at a place of store and state. */
+static uint8_t *lent_byte(size_t place)
+{
+    return place < STORE_BYTES ? now.store + place : now.state + (place - STORE_BYTES);
 }
 
 /* One byte of store or state, which may make them no image any more. */
 static void damage(struct input *in)
 {
-    uint8_t *at = number(in, 1) % 2 == 0 ? now.store + number(in, 2) % sizeof now.store : now.state + number(in, 2) % sizeof now.state;
+    uint8_t *at = number(in, 1) % 2 == 0 ? now.store + number(in, 2) % STORE_BYTES : now.state + number(in, 2) % sizeof now.state;
     *at ^= (uint8_t)number(in, 1);
+}
+
+/* Bytes of the input as store and state, with zeros between them. */
+static void take_bytes(struct input *in)
+{
+    size_t place = 0;
+    memset(&now, 0, sizeof now);
+    while (in->left != 0) {
+        size_t gap = (size_t)number(in, 2), length = (size_t)number(in, 1);
+        if (gap == NO_GAP) {
+            return;
+        }
+        for (place += gap; length != 0 && place < LENT_BYTES; length--, place++) {
+            *lent_byte(place) = (uint8_t)number(in, 1);
+        }
+    }
+}
+
+/* One of the stores, which are made once. */
+static void take_store(unsigned number)
+{
+    static uint8_t stores[STORES][STORE_BYTES], states[STORES][WALLATHI_STATE_BYTES];
+    static uint8_t made[STORES];
+    if (!made[number]) {
+        make_store(number, stores[number], STORE_BYTES, states[number]);
+        made[number] = 1;
+    }
+    memcpy(now.store, stores[number], sizeof now.store);
+    memcpy(now.state, states[number], sizeof now.state);
+}
+
+static void start(struct input *in)
+{
+    static const size_t lengths[] = {STORE_BYTES,         STORE_BYTES,
+                                     STORE_BYTES,         STORE_BYTES,
+                                     WALLATHI_SLOT_BYTES, 2 * WALLATHI_SLOT_BYTES + 1,
+                                     0,                   WALLATHI_SLOT_BYTES - 1};
+    size_t length;
+    const uint8_t *file;
+    memset(&now, 0, sizeof now);
+    store_length = lengths[number(in, 1) % 8];
+    /* The whole store is set up, so that a good state stands beside a store without a slot too. */
+    wallathi_set_up(now.store, sizeof now.store, now.state);
+    switch (number(in, 1) % STARTS) {
+    case STARTS_WITH_FILE:
+        file = slice(in, in->left, &length);
+        ever[LOAD][wallathi_load(now.store, store_length, now.state, file, length) % ANSWERS] = 1;
+        break;
+    case STARTS_WITH_BYTES:
+        take_bytes(in);
+        break;
+    case STARTS_WITH_STORE:
+        take_store((unsigned)number(in, 1) % STORES);
+        break;
+    default:
+        break;
+    }
+}
+
+/* What the store is like. */
+static void trace_store(void)
+{
+    unsigned groups = 0, place;
+    for (place = 0; place < STORE_SLOTS; place++) {
+        const uint8_t *node = now.store + place * WALLATHI_SLOT_BYTES;
+        trace.node_size[(node[0] + 256u * node[1]) / 256 % SIZES] = 1;
+        trace.elements[bits(node[4] + 256u * node[5])] = 1;
+    }
+    for (place = 0; place < GROUPS; place++) {
+        const uint8_t *region = now.state + REGIONS_AT + place * REGION_BYTES;
+        groups += region[0] != 0;
+        trace.consumers[region[CONSUMERS_AT] % SIZES] = 1;
+        trace.pending[(region[PENDING_AT] + 256u * region[PENDING_AT + 1]) / 16 % SIZES] = 1;
+    }
+    trace.groups[groups] = 1;
 }
 
 int LLVMFuzzerTestOneInput(const uint8_t *data, size_t size)
 {
     struct input in = {data, size};
-    memset(&now, 0, sizeof now);
-    wallathi_set_up(now.store, sizeof now.store, now.state);
+    uint32_t last = 0;
+    start(&in);
     while (in.left != 0) {
         uint64_t kind = number(&in, 1);
+        unsigned command;
         uint32_t code;
-        before = now;
         if (kind % 64 == 0) {
             damage(&in);
             continue;
         }
-        code = kind % 16 == 1 ? load(&in) : call(&in);
+        before = now;
+        command = kind % 16 == 1 ? LOAD : (unsigned)number(&in, 1) % LOAD;
+        code = command == LOAD ? load(&in) : call(&in, command);
         if (code != 0 && memcmp(&now, &before, sizeof now) != 0) {
             fprintf(stderr, "fuzz: a call answered %lu and changed something\n", (unsigned long)code);
             abort();
         }
+        ever[command][code % ANSWERS] = 1;
+        trace.answered[command][code % ANSWERS] = 1;
+        trace.after[last % ANSWERS][code % ANSWERS] = 1;
+        trace.number[command][bits(code == 0 ? now.values[0] : 0)] = 1;
+        last = code;
     }
+    trace_store();
     return 0;
 }
 
-#ifdef FUZZ_RANDOM
-static uint64_t next_random(uint64_t *state)
+/* Which answers came, of any command, and how many of which command. */
+static void report(void)
 {
-    *state ^= *state << 13;
-    *state ^= *state >> 7;
-    *state ^= *state << 17;
-    return *state;
+    unsigned answer, command, pairs = 0;
+    fprintf(stderr, "fuzz: answers");
+    for (answer = 0; answer < ANSWERS; answer++) {
+        unsigned commands = 0;
+        for (command = 0; command < COMMANDS; command++) {
+            commands += ever[command][answer];
+        }
+        pairs += commands;
+        if (commands != 0) {
+            fprintf(stderr, " %u", answer);
+        }
+    }
+    fprintf(stderr, ", %u by command\n", pairs);
+}
+
+int LLVMFuzzerInitialize(int *argc, char ***argv)
+{
+    (void)argc;
+    (void)argv;
+    return atexit(report);
+}
+
+#ifdef FUZZ_RANDOM
+enum { MOST_INPUT = 32768, MOST_SEEDS = 64 };
+
+static uint8_t seeds[MOST_SEEDS][MOST_INPUT];
+static size_t seed_length[MOST_SEEDS], seed_count;
+
+static uint64_t next_random(void)
+{
+    static uint64_t state = 88172645463325252u;
+    state ^= state << 13;
+    state ^= state >> 7;
+    state ^= state << 17;
+    return state;
+}
+
+static int read_seed(const char *path)
+{
+    FILE *file = fopen(path, "rb");
+    if (file == NULL || seed_count == MOST_SEEDS) {
+        fprintf(stderr, "fuzz: cannot take the seed %s\n", path);
+        return 0;
+    }
+    seed_length[seed_count] = fread(seeds[seed_count], 1, MOST_INPUT, file);
+    seed_count++;
+    return fclose(file) == 0;
+}
+
+/* A seed with a few bytes changed and random ones after it; every fourth time random bytes alone. */
+static size_t make_input(uint8_t *data)
+{
+    size_t size = 0, changes, end, i;
+    if (seed_count != 0 && next_random() % 4 != 0) {
+        size_t seed = (size_t)(next_random() % seed_count);
+        size = seed_length[seed];
+        memcpy(data, seeds[seed], size);
+        for (changes = (size_t)(next_random() % 4); changes != 0; changes--) {
+            data[next_random() % size] = (uint8_t)next_random();
+        }
+    }
+    end = size + (size_t)(next_random() % 1500);
+    end = end < MOST_INPUT ? end : MOST_INPUT;
+    for (i = size; i < end; i++) {
+        data[i] = (uint8_t)next_random();
+    }
+    return end;
 }
 
 int main(int argc, char **argv)
 {
-    static uint8_t data[16384];
-    uint64_t random = 88172645463325252u;
-    long rounds = argc == 2 ? strtol(argv[1], NULL, 10) : 1000;
-    for (long round = 0; round < rounds; round++) {
-        size_t size = (size_t)(next_random(&random) % sizeof data);
-        for (size_t i = 0; i < size; i++) {
-            data[i] = (uint8_t)next_random(&random);
+    static uint8_t data[MOST_INPUT];
+    long rounds = argc > 1 ? strtol(argv[1], NULL, 10) : 1000, round;
+    int i;
+    LLVMFuzzerInitialize(&argc, &argv);
+    for (i = 2; i < argc; i++) {
+        if (!read_seed(argv[i])) {
+            return 1;
         }
+        LLVMFuzzerTestOneInput(seeds[i - 2], seed_length[i - 2]);
+    }
+    for (round = 0; round < rounds; round++) {
+        size_t size = make_input(data);
         LLVMFuzzerTestOneInput(data, size);
     }
     printf("%ld inputs: no crash, and nothing changed by a call that did not answer 0\n", rounds);

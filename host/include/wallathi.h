@@ -3,7 +3,8 @@
  *
  * A store is an area of up to 64 slots of 4,096 bytes; bytes past the last slot are neither read nor written. Beside it stands a state
  * of WALLATHI_STATE_BYTES bytes. Neither has pointers in it: copy both, write both to a file and read them back, at any address. The
- * library allocates nothing, keeps nothing between calls and calls nothing but memory functions of C.
+ * library allocates nothing, keeps nothing between calls and needs no C library beyond memcpy, memset and memmove. It is compiled for
+ * x86-64 Linux (System V calls).
  *
  * An ID is two 64-bit numbers, ms and seq, ordered by ms, then seq. A message has 1 to 32 pairs of a field and a value, each of 0 to
  * 1,000 bytes. It travels as a slip: one byte for the number of pairs, then field, value, field, value, .., each a length of 2 bytes,
@@ -16,15 +17,16 @@
  * written only with WALLATHI_OK; what is written to the output starts it, and the bytes after that stay. Unless the answer is
  * WALLATHI_OK, no byte is changed: not of store and state, not of the output, not of an out-parameter.
  *
- * A slice is a pointer and a length; a length of 0 goes with any pointer, NULL too. No other pointer may be NULL, and each must point to
- * all of its bytes, of any alignment. Store, state, output and out-parameters that a call may change must not overlap anything else
- * that is handed to the same call. Calls on different stores may run at the same time, and so may reading calls on one.
+ * A slice is a pointer and a length; a length of 0 goes with any pointer, NULL too, for every slice of every function. No other pointer
+ * may be NULL, and each must point to all of its bytes, of any alignment. Store, state, output and out-parameters that a call may change
+ * must not overlap anything else that is handed to the same call. Calls on different stores may run at the same time, and so may reading
+ * calls on one.
  *
  * What a call costs: the judgement reads every byte of the slots and of the state. docs/PERFORMANCE.md has figures.
  *
  *     static uint8_t store[4 * WALLATHI_SLOT_BYTES], state[WALLATHI_STATE_BYTES];
  *     static const uint8_t slip[] = {1, 4, 0, 't', 'e', 'm', 'p', 2, 0, '2', '1'};
- *     uint8_t value[1000];
+ *     uint8_t value[WALLATHI_LONGEST_STRING];
  *     uint64_t ms, seq, length;
  *     wallathi_set_up(store, sizeof store, state);
  *     if (wallathi_add_by_clock(store, sizeof store, state, 1763000000000, slip, sizeof slip, &ms, &seq) == WALLATHI_OK
@@ -46,14 +48,21 @@ extern "C" {
 /* The size of a state; wallathi_state_bytes answers the same. */
 #define WALLATHI_STATE_BYTES 64434
 /* A call needs at most this much stack; host/stack.c measures it. */
-#define WALLATHI_STACK_BYTES 98304
+#define WALLATHI_STACK_BYTES 40960
 /* A store has as many slots as fit its length, 64 at most. */
 #define WALLATHI_SLOT_BYTES 4096
 #define WALLATHI_MOST_SLOTS 64
+/* A message has 1 to this many pairs; a field and a value have 0 to this many bytes each. */
+#define WALLATHI_MOST_PAIRS 32
+#define WALLATHI_LONGEST_STRING 1000
 /* An output of this length suffices for every read, and for every value that field writes. */
 #define WALLATHI_LONGEST_SLIP 5353
 /* An output of this length suffices for every save. */
 #define WALLATHI_LONGEST_SNAPSHOT 321604
+/* A name of a group or of a consumer has 1 to this many bytes. */
+#define WALLATHI_LONGEST_NAME 16
+/* Answers from 1 to this one are refusals; later versions may use those that are not named below. */
+#define WALLATHI_LAST_REFUSAL 31
 
 /* answered, done, moved: out-parameters and output are written as the function says */
 #define WALLATHI_OK 0

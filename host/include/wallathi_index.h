@@ -2,7 +2,8 @@
  * wallathi_index: a radix index of up to 64 keys of 1 to 16 bytes, each with a 32-bit value, in bytes that you lend.
  *
  * The index lives in a record of WALLATHI_INDEX_RECORD_BYTES bytes, of any alignment. It has no pointers in it: copy it, move it, write
- * it to a file and read it back. The library allocates nothing, keeps nothing between calls and calls nothing but memory functions of C.
+ * it to a file and read it back. The library allocates nothing and keeps nothing between calls. The archive is for x86-64 Linux (System V
+ * calls) and takes memcpy, memset and memmove from the C library, nothing else.
  *
  * Order is bytewise, bytes counting as 0 to 255, and a key comes before the longer keys that it starts.
  *
@@ -18,7 +19,7 @@
  * Each function answers one of the numbers below. If several refusals apply, the lowest is answered. Unless the answer is
  * WALLATHI_INDEX_OK, no byte is changed: not of the record, not of the output, not of an out-parameter.
  *
- * No pointer may be NULL, not even that of an empty slice. A record, an output and an out-parameter that a call changes must not overlap
+ * No pointer may be NULL but a key's whose length is 0. A record, an output and an out-parameter that a call changes must not overlap
  * anything else that is handed to the same call. Calls on different records may run at the same time, and so may reading calls on one.
  *
  *     static uint8_t record[WALLATHI_INDEX_RECORD_BYTES];
@@ -42,7 +43,7 @@ extern "C" {
 
 /* The size of a record; wallathi_index_record_bytes answers the same. */
 #define WALLATHI_INDEX_RECORD_BYTES 6658
-/* A key has 1 to this many bytes, so an output of this length always suffices. */
+/* A key has 1 to this many bytes; an output has exactly this many. */
 #define WALLATHI_INDEX_LONGEST_KEY 16
 #define WALLATHI_INDEX_MOST_KEYS 64
 
@@ -52,8 +53,6 @@ extern "C" {
 #define WALLATHI_INDEX_DAMAGED 2
 /* refused: the key has no byte, or more than 16 */
 #define WALLATHI_INDEX_BAD_KEY 3
-/* refused: the key that was found is longer than the output */
-#define WALLATHI_INDEX_SHORT_OUTPUT 8
 /* refused: the key is new and 64 are held */
 #define WALLATHI_INDEX_FULL 18
 /* no such key is held */
@@ -84,16 +83,16 @@ uint32_t wallathi_index_remove(uint8_t *record, const uint8_t *key, size_t key_l
 uint32_t wallathi_index_find(const uint8_t *record, const uint8_t *key, size_t key_length, uint64_t *value);
 
 /*
- * The first key that is the given one or comes after it, and its value. The key found is written to the start of the output, whose
- * other bytes stay; found_length is its length.
- * WALLATHI_INDEX_OK, WALLATHI_INDEX_NONE, or the refusals 2, 3 and 8.
+ * The first key that is the given one or comes after it, and its value. The output has WALLATHI_INDEX_LONGEST_KEY bytes: the key found is
+ * written to its start and the bytes after the key stay; found_length is the key's length.
+ * WALLATHI_INDEX_OK, WALLATHI_INDEX_NONE, or the refusals 2 and 3.
  */
 uint32_t wallathi_index_first_at_or_above(const uint8_t *record, const uint8_t *key, size_t key_length, uint8_t *output,
-                                          size_t output_length, uint64_t *found_length, uint64_t *value);
+                                          uint64_t *found_length, uint64_t *value);
 
 /* The same for the last key that is the given one or comes before it. */
 uint32_t wallathi_index_last_at_or_below(const uint8_t *record, const uint8_t *key, size_t key_length, uint8_t *output,
-                                         size_t output_length, uint64_t *found_length, uint64_t *value);
+                                         uint64_t *found_length, uint64_t *value);
 
 #ifdef __cplusplus
 }

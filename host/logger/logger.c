@@ -1,241 +1,219 @@
-#define _POSIX_C_SOURCE 200809L
 #include "logger.h"
 
-#include <dirent.h>
 #include <errno.h>
-#include <fcntl.h>
+#include <inttypes.h>
+#include <stdarg.h>
 #include <stdio.h>
-#include <stdlib.h>
 #include <string.h>
-#include <sys/stat.h>
-#include <unistd.h>
 
-enum { PATH_BYTES = LOGGER_FOLDER_BYTES + 40, NAME_DIGITS = 20 };
+#include "wallathi_text.h"
 
-static const char SUFFIX[] = ".snapshot";
+enum { LONGEST_INTEGER = 20 }; /* -9223372036854775808 */
+
+/* Adds to what is said, with "; " between. */
+static void say(struct logger *l, const char *format, ...)
+{
+    size_t at = strlen(l->said);
+    if (at != 0 && at + 2 < sizeof l->said) {
+        strcpy(l->said + at, "; ");
+        at += 2;
+    }
+    va_list arguments;
+    va_start(arguments, format);
+    vsnprintf(l->said + at, sizeof l->said - at, format, arguments);
+    va_end(arguments);
+}
+
+/* Says what the system refused; `where` goes before it. */
+static uint32_t system_code(struct logger *l, const char *where, int answer)
+{
+    if (answer == FILES_BUSY) {
+        say(l, "another logger has the folder %s", l->files.folder);
+        return LOGGER_BUSY;
+    }
+    if (answer != 0) {
+        say(l, "%s%s: %s", where, l->files.step, strerror(errno));
+        return LOGGER_SYSTEM;
+    }
+    return WALLATHI_OK;
+}
+
+/* Loads a file over what was loaded before it, or sets it aside. */
+static uint32_t load_file(struct logger *l, uint64_t number, uint64_t *loaded)
+{
+    char where[LONGEST_INTEGER + 4];
+    size_t len = 0;
+    snprintf(where, sizeof where, "%" PRIu64 ": ", number);
+    if (files_read(&l->files, number, l->file, sizeof l->file, &len) != 0) {
+        return system_code(l, where, -1);
+    }
+    uint32_t code = wallathi_load(l->store, sizeof l->store, l->state, l->file, len);
+    if (code == WALLATHI_OK) {
+        files_hold(&l->files, number);
+        *loaded = number;
+        return WALLATHI_OK;
+    }
+    if (files_set_aside(&l->files, number) != 0) {
+        return system_code(l, where, -1);
+    }
+    say(l, "%" PRIu64 " %s (%" PRIu32 "), set aside", number, code == WALLATHI_NO_SNAPSHOT ? "is no snapshot" : "does not fit the store", code);
+    return WALLATHI_OK;
+}
+
+/* Loads what the folder has, by rising number. A file that cannot be read is passed over only if a newer one is loaded. */
+static uint32_t load_files(struct logger *l, uint64_t *loaded)
+{
+    uint64_t numbers[FILES_MOST_HELD];
+    size_t count;
+    *loaded = 0;
+    do {
+        uint32_t code = system_code(l, "", files_list(&l->files, numbers, &count));
+        if (code != WALLATHI_OK) {
+            return code;
+        }
+        for (size_t i = 0; i < count; i++) {
+            uint32_t one = load_file(l, numbers[i], loaded);
+            code = one != WALLATHI_OK || *loaded == numbers[i] ? one : code;
+        }
+        if (code != WALLATHI_OK) {
+            return code;
+        }
+    } while (*loaded == 0 && count == FILES_MOST_HELD); /* all were set aside, and there may be older ones */
+    return WALLATHI_OK;
+}
+
+uint32_t logger_start(struct logger *l, const char *folder, uint64_t *loaded)
+{
+    l->said[0] = 0;
+    uint32_t code = system_code(l, "", files_open(&l->files, folder));
+    if (code != WALLATHI_OK) {
+        return code;
+    }
+    code = load_files(l, loaded);
+    if (code == WALLATHI_OK && *loaded == 0) {
+        code = wallathi_set_up(l->store, sizeof l->store, l->state);
+    }
+    if (code != WALLATHI_OK) {
+        files_close(&l->files);
+    }
+    return code;
+}
 
 /* A slip is a count, then field, value, field, value, each with a length of 2 bytes, little-endian. */
-static size_t put_string(uint8_t *out, const char *text)
+static size_t put_string(uint8_t *out, const char *text, size_t len)
 {
-    size_t len = strlen(text);
     out[0] = (uint8_t)(len % 256);
     out[1] = (uint8_t)(len / 256);
     memcpy(out + 2, text, len);
     return 2 + len;
 }
 
-/* Of up to 32 samples with names of up to 64 bytes; 0 where one is longer. */
-static size_t put_slip(uint8_t *out, size_t room, const struct sample *samples, size_t count)
+static uint32_t put_slip(uint8_t *out, size_t room, const struct sample *samples, size_t count, size_t *len)
 {
+    if (WALLATHI_MOST_PAIRS < count) {
+        return WALLATHI_BAD_ARGUMENT;
+    }
     size_t at = 1;
     out[0] = (uint8_t)count;
     for (size_t i = 0; i < count; i++) {
-        char value[16];
-        snprintf(value, sizeof value, "%ld", (long)samples[i].value);
-        if (room < at + 4 + strlen(samples[i].channel) + strlen(value)) {
-            return 0;
+        char value[LONGEST_INTEGER + 1];
+        size_t name_len = strlen(samples[i].channel);
+        size_t value_len = (size_t)snprintf(value, sizeof value, "%" PRId64, samples[i].value);
+        if (WALLATHI_LONGEST_STRING < name_len) {
+            return WALLATHI_BAD_ARGUMENT;
         }
-        at += put_string(out + at, samples[i].channel);
-        at += put_string(out + at, value);
+        if (room - at < 4 + name_len + value_len) {
+            return WALLATHI_LONG_MESSAGE;
+        }
+        at += put_string(out + at, samples[i].channel, name_len);
+        at += put_string(out + at, value, value_len);
     }
-    return at;
+    *len = at;
+    return WALLATHI_OK;
 }
 
-static void path_of(const struct logger *l, uint64_t number, char *path)
+/* WALLATHI_NONE where there is no message. */
+static uint32_t delete_oldest(struct logger *l, uint64_t *trimmed)
 {
-    snprintf(path, PATH_BYTES, "%s/%0*llu%s", l->folder, NAME_DIGITS, (unsigned long long)number, SUFFIX);
+    uint64_t ms, seq, gone = 0;
+    uint32_t code = wallathi_next(l->store, sizeof l->store, l->state, 0, 0, &ms, &seq);
+    if (code == WALLATHI_OK) {
+        code = wallathi_delete(l->store, sizeof l->store, l->state, ms, seq, &gone);
+    }
+    *trimmed += gone;
+    return code;
 }
 
-/* The number in a snapshot's name, 0 for any other name. */
-static uint64_t number_of(const char *name)
+uint32_t logger_add(struct logger *l, uint64_t time_ms, const struct sample *samples, size_t count, uint64_t keep, struct added *added)
 {
-    char *end;
-    if (strlen(name) != NAME_DIGITS + sizeof SUFFIX - 1 || strspn(name, "0123456789") != NAME_DIGITS || strcmp(name + NAME_DIGITS, SUFFIX) != 0) {
+    uint8_t slip[WALLATHI_LONGEST_SLIP]; /* one that is longer is too long for a slot */
+    size_t len;
+    int trims = 0;
+    added->trimmed = 0;
+    uint32_t code = put_slip(slip, sizeof slip, samples, count, &len);
+    while (code == WALLATHI_OK) {
+        code = wallathi_add_by_clock(l->store, sizeof l->store, l->state, time_ms, slip, len, &added->ms, &added->seq);
+        if (code != WALLATHI_FULL) {
+            return code;
+        }
+        code = trims++ == 0 ? wallathi_trim(l->store, sizeof l->store, l->state, keep, &added->trimmed) : delete_oldest(l, &added->trimmed);
+    }
+    return code == WALLATHI_NONE ? WALLATHI_FULL : code;
+}
+
+uint32_t logger_save(struct logger *l, uint64_t *trimmed)
+{
+    uint64_t len = 0;
+    uint32_t code = WALLATHI_OK;
+    l->said[0] = 0;
+    *trimmed = 0;
+    while (code == WALLATHI_OK) {
+        code = wallathi_save(l->store, sizeof l->store, l->state, l->file, sizeof l->file, &len);
+        if (code == WALLATHI_OK) {
+            return system_code(l, "", files_write(&l->files, l->file, (size_t)len));
+        }
+        code = code == WALLATHI_MOST_NODES ? delete_oldest(l, trimmed) : code;
+    }
+    return code;
+}
+
+/* Whether a string is an integer by the rules of the store, and which. */
+static int integer_of(const uint8_t *text, size_t len, int64_t *value)
+{
+    size_t minus = len != 0 && text[0] == '-';
+    uint64_t magnitude = 0, most = (uint64_t)INT64_MAX + minus;
+    if (len == minus || (text[minus] == '0' && len != 1)) {
         return 0;
     }
-    errno = 0;
-    uint64_t number = strtoull(name, &end, 10);
-    return errno == 0 ? number : 0;
-}
-
-/* The greatest number below a limit, 0 for none. */
-static uint32_t newest_below(const struct logger *l, uint64_t limit, uint64_t *number)
-{
-    DIR *folder = opendir(l->folder);
-    if (folder == NULL) {
-        return LOGGER_SYSTEM;
-    }
-    *number = 0;
-    for (struct dirent *entry = readdir(folder); entry != NULL; entry = readdir(folder)) {
-        uint64_t n = number_of(entry->d_name);
-        if (n < limit && *number < n) {
-            *number = n;
-        }
-    }
-    closedir(folder);
-    return 0;
-}
-
-uint32_t logger_read_file(struct logger *l, uint64_t number, size_t *len)
-{
-    char path[PATH_BYTES];
-    path_of(l, number, path);
-    int fd = open(path, O_RDONLY);
-    if (fd < 0) {
-        return LOGGER_SYSTEM;
-    }
-    size_t got = 0;
-    for (;;) {
-        ssize_t n = read(fd, l->file + got, sizeof l->file - got);
-        if (n < 0 && errno == EINTR) {
-            continue;
-        }
-        if (n < 0) {
-            close(fd);
-            return LOGGER_SYSTEM;
-        }
-        got += (size_t)n;
-        if (n == 0 || got == sizeof l->file) {
-            break;
-        }
-    }
-    close(fd);
-    *len = got;
-    return 0;
-}
-
-uint32_t logger_start(struct logger *l, const char *folder, uint64_t *loaded)
-{
-    if (LOGGER_FOLDER_BYTES <= strlen(folder)) {
-        errno = ENAMETOOLONG;
-        return LOGGER_SYSTEM;
-    }
-    strcpy(l->folder, folder);
-    if (mkdir(folder, 0755) != 0 && errno != EEXIST) {
-        return LOGGER_SYSTEM;
-    }
-    uint32_t code = newest_below(l, UINT64_MAX, &l->newest);
-    for (uint64_t n = l->newest; code == 0 && n != 0; code = newest_below(l, n, &n)) {
-        size_t len = 0;
-        if (logger_read_file(l, n, &len) == 0 && wallathi_load(l->store, sizeof l->store, l->state, l->file, len) == 0) {
-            *loaded = n;
+    for (size_t i = minus; i < len; i++) {
+        if (text[i] < '0' || '9' < text[i]) {
             return 0;
         }
-    }
-    if (code != 0) {
-        return code;
-    }
-    *loaded = 0;
-    return wallathi_set_up(l->store, sizeof l->store, l->state);
-}
-
-uint32_t logger_add(struct logger *l, uint64_t time_ms, const struct sample *samples, size_t count, uint64_t keep, uint64_t *trimmed)
-{
-    uint8_t slip[4096];
-    uint64_t ms, seq;
-    *trimmed = 0;
-    if (LOGGER_MOST_CHANNELS < count) {
-        return 3;
-    }
-    size_t len = put_slip(slip, sizeof slip, samples, count);
-    uint32_t code = wallathi_add_by_clock(l->store, sizeof l->store, l->state, time_ms, slip, len, &ms, &seq);
-    if (code != 7) {
-        return code;
-    }
-    code = wallathi_trim(l->store, sizeof l->store, l->state, keep, trimmed);
-    if (code != 0) {
-        return code;
-    }
-    return wallathi_add_by_clock(l->store, sizeof l->store, l->state, time_ms, slip, len, &ms, &seq);
-}
-
-static int write_whole(int fd, const uint8_t *bytes, size_t len)
-{
-    while (0 < len) {
-        ssize_t n = write(fd, bytes, len);
-        if (n < 0 && errno == EINTR) {
-            continue;
+        uint64_t digit = (uint64_t)(text[i] - '0');
+        if ((most - digit) / 10 < magnitude) {
+            return 0;
         }
-        if (n < 0) {
-            return -1;
-        }
-        bytes += n;
-        len -= (size_t)n;
+        magnitude = 10 * magnitude + digit;
     }
-    return 0;
+    *value = minus ? -(int64_t)(magnitude - 1) - 1 : (int64_t)magnitude;
+    return 1;
 }
 
-/* A new file with these bytes, on the disk when this returns 0. */
-static int write_synced(const char *path, const uint8_t *bytes, size_t len)
+uint32_t logger_sample(const struct logger *l, uint64_t ms, uint64_t seq, const char *channel, int64_t *value)
 {
-    int fd = open(path, O_WRONLY | O_CREAT | O_TRUNC, 0644);
-    if (fd < 0) {
-        return -1;
-    }
-    if (write_whole(fd, bytes, len) != 0 || fsync(fd) != 0) {
-        close(fd);
-        return -1;
-    }
-    return close(fd);
-}
-
-/* A rename is on the disk once its folder is. */
-static int sync_folder(const char *folder)
-{
-    int fd = open(folder, O_RDONLY);
-    if (fd < 0) {
-        return -1;
-    }
-    int failed = fsync(fd);
-    close(fd);
-    return failed;
-}
-
-static void remove_older(const struct logger *l)
-{
-    uint64_t n = l->newest;
-    for (int kept = 1; newest_below(l, n, &n) == 0 && n != 0; kept++) {
-        if (LOGGER_FILES_KEPT <= kept) {
-            char path[PATH_BYTES];
-            path_of(l, n, path);
-            unlink(path);
-        }
-    }
-}
-
-uint32_t logger_save(struct logger *l)
-{
+    uint8_t text[LONGEST_INTEGER];
     uint64_t len = 0;
-    uint32_t code = wallathi_save(l->store, sizeof l->store, l->state, l->file, sizeof l->file, &len);
-    if (code != 0) {
-        return code;
+    uint32_t code = wallathi_field(l->store, sizeof l->store, l->state, ms, seq, (const uint8_t *)channel, strlen(channel), text, sizeof text, &len);
+    if (code == WALLATHI_SHORT_OUTPUT) {
+        return LOGGER_NO_SAMPLE;
     }
-    char temporary[PATH_BYTES], path[PATH_BYTES];
-    snprintf(temporary, sizeof temporary, "%s/saving", l->folder);
-    path_of(l, l->newest + 1, path);
-    if (write_synced(temporary, l->file, (size_t)len) != 0 || rename(temporary, path) != 0 || sync_folder(l->folder) != 0) {
-        return LOGGER_SYSTEM;
-    }
-    l->newest++;
-    remove_older(l);
-    return 0;
+    return code != WALLATHI_OK || integer_of(text, (size_t)len, value) ? code : LOGGER_NO_SAMPLE;
 }
 
-uint32_t logger_sample(const struct logger *l, uint64_t ms, uint64_t seq, const char *channel, int32_t *value)
+const char *logger_text(const struct logger *l, uint32_t code)
 {
-    uint8_t text[16];
-    uint64_t len = 0;
-    uint32_t code = wallathi_field(l->store, sizeof l->store, l->state, ms, seq, (const uint8_t *)channel, strlen(channel), text, sizeof text - 1, &len);
-    if (code != 0) {
-        return code == 8 ? 3 : code;
+    if (code == LOGGER_SYSTEM || code == LOGGER_BUSY) {
+        return l->said;
     }
-    text[len] = 0;
-    char *end;
-    errno = 0;
-    long v = strtol((const char *)text, &end, 10);
-    if (errno != 0 || *end != 0 || len == 0 || v < INT32_MIN || INT32_MAX < v) {
-        return 3;
-    }
-    *value = (int32_t)v;
-    return 0;
+    return code == LOGGER_NO_SAMPLE ? "the value is no sample" : wallathi_refusal_text(code);
 }

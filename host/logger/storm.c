@@ -1,6 +1,5 @@
 /* A simulated storm, end to end: three stations log for three hours, an analyst reads along, the file goes to a second institute, and the
  * eastern curve is drawn with its gaps. `storm FOLDER` leaves everything in FOLDER. */
-#include <errno.h>
 #include <inttypes.h>
 #include <math.h>
 #include <stdio.h>
@@ -9,17 +8,17 @@
 
 #include "logger.h"
 #include "picture.h"
-#include "refusals.h"
 
 enum {
     SECONDS = 3 * 3600,
-    PEAK = 2 * 3600,        /* the height of the storm */
+    PEAK = 2 * 3600,          /* the height of the storm */
     SILENT_FROM = PEAK - 120, /* the eastern station gives nothing */
     SILENT_TO = PEAK + 60,
-    TRUE_ZERO = PEAK + 300,
-    KEEP = 5400,            /* the newest hour and a half */
+    TRUE_ZERO = PEAK + 242,   /* where the curve crosses zero */
+    KEEP = 5400,              /* the newest hour and a half */
     SAVE_EVERY = 600,
-    READ_EVERY = 60
+    READ_EVERY = 60,
+    CONTENTS = 3              /* where a snapshot's list of contents begins (docs/FORMAT.md) */
 };
 
 static const uint64_t START_MS = 1794355200000u; /* 2026-11-11 00:00:00 UTC */
@@ -28,17 +27,16 @@ static const char *const CHANNELS[] = {"west", "middle", "east"};
 static struct logger ours, theirs;
 static struct point curve[SECONDS];
 
-static void stop(const char *what, uint32_t code)
+static void stop(const char *what, const char *why)
 {
-    const char *why = code == LOGGER_SYSTEM ? strerror(errno) : wallathi_refusal_text(code);
-    fprintf(stderr, "storm: %s: %s (%" PRIu32 ")\n", what, why, code);
+    fprintf(stderr, "storm: %s: %s\n", what, why);
     exit(1);
 }
 
 static void must(const char *what, uint32_t code)
 {
-    if (code != 0) {
-        stop(what, code);
+    if (code != WALLATHI_OK) {
+        stop(what, logger_text(&ours, code));
     }
 }
 
@@ -88,7 +86,7 @@ static void read_along(uint64_t now)
     uint64_t ms, seq, count;
     for (;;) {
         uint32_t code = wallathi_group_read(ours.store, sizeof ours.store, ours.state, bytes_of("curves"), 6, bytes_of("analyst"), 7, now, &ms, &seq);
-        if (code == 32) {
+        if (code == WALLATHI_NONE) {
             return;
         }
         must("group read", code);
@@ -102,9 +100,9 @@ static void read_along(uint64_t now)
 static uint64_t take_over(uint64_t now)
 {
     uint64_t ms = 0, seq = 0, time, times, lives, count, moved = 0;
-    while (wallathi_next_pending(ours.store, sizeof ours.store, ours.state, bytes_of("curves"), 6, bytes_of("analyst"), 7, ms, seq, &ms, &seq, &time, &times, &lives) == 0) {
+    while (wallathi_next_pending(ours.store, sizeof ours.store, ours.state, bytes_of("curves"), 6, bytes_of("analyst"), 7, ms, seq, &ms, &seq, &time, &times, &lives) == WALLATHI_OK) {
         uint32_t code = wallathi_claim(ours.store, sizeof ours.store, ours.state, bytes_of("curves"), 6, bytes_of("relief"), 6, 600000, ms, seq, now);
-        if (code == 34) {
+        if (code == WALLATHI_NOT_MOVED) {
             continue;
         }
         must("claim", code);
@@ -116,63 +114,72 @@ static uint64_t take_over(uint64_t now)
 
 static void log_storm(void)
 {
+    struct added added;
     uint64_t trimmed, all_trimmed = 0, saves = 0;
     for (int second = 0; second < SECONDS; second++) {
         struct sample samples[3];
         size_t n = samples_at(second, samples);
         uint64_t now = START_MS + 1000u * (uint64_t)second;
         if (n != 0) {
-            must("add", logger_add(&ours, now, samples, n, KEEP, &trimmed));
-            all_trimmed += trimmed;
+            must("add", logger_add(&ours, now, samples, n, KEEP, &added));
+            all_trimmed += added.trimmed;
         }
         if (second % READ_EVERY == READ_EVERY - 1) {
             read_along(now);
         }
         if (second % SAVE_EVERY == SAVE_EVERY - 1) {
-            must("save", logger_save(&ours));
+            must("save", logger_save(&ours, &trimmed));
+            all_trimmed += trimmed;
             saves++;
         }
     }
     uint64_t moved = take_over(START_MS + 1000u * (uint64_t)SECONDS + 600000u);
-    must("save", logger_save(&ours));
-    printf("logged      %d seconds of three stations; %" PRIu64 " saves; %" PRIu64 " of the oldest messages trimmed\n", SECONDS, saves + 1, all_trimmed);
+    must("save", logger_save(&ours, &trimmed));
+    printf("logged      %d seconds of three stations; %" PRIu64 " saves; %" PRIu64 " of the oldest messages trimmed\n", SECONDS, saves + 1,
+           all_trimmed + trimmed);
     printf("analyst     all messages read; %" PRIu64 " left pending were claimed by a colleague\n", moved);
+}
+
+static void read_newest(size_t *len)
+{
+    if (files_read(&ours.files, ours.files.newest, ours.file, sizeof ours.file, len) != 0) {
+        stop("read the file", ours.files.step);
+    }
 }
 
 /* The second institute loads the file into a store of its own and saves it: the same bytes. */
 static void compare(const char *folder)
 {
-    size_t len;
-    uint64_t saved = 0, loaded;
-    char other[LOGGER_FOLDER_BYTES];
+    size_t len = 0;
+    uint64_t saved = 0, loaded, trimmed;
+    char other[FILES_FOLDER_BYTES];
     snprintf(other, sizeof other, "%s/other", folder);
     must("second institute", logger_start(&theirs, other, &loaded));
-    must("read the file", logger_read_file(&ours, ours.newest, &len));
+    read_newest(&len);
     must("load", wallathi_load(theirs.store, sizeof theirs.store, theirs.state, ours.file, len));
     must("save again", wallathi_save(theirs.store, sizeof theirs.store, theirs.state, theirs.file, sizeof theirs.file, &saved));
     if (saved != len || memcmp(ours.file, theirs.file, len) != 0) {
-        fprintf(stderr, "storm: the two institutes' files differ\n");
-        exit(1);
+        stop("compare", "the two institutes' files differ");
     }
-    must("second institute's file", logger_save(&theirs));
+    must("second institute's file", logger_save(&theirs, &trimmed));
     printf("institutes  the second one loaded the file of %zu bytes and saved the same %zu bytes\n", len, len);
 }
 
-/* A byte changed in the file, and one in the store, are refused. */
+/* A bit changed in the file's list of contents, and one in the store, are refused. (In a sample it would make another sample: no damage.) */
 static void damage(void)
 {
-    size_t len;
+    size_t len = 0;
     uint64_t ms, seq;
-    must("read the file", logger_read_file(&ours, ours.newest, &len));
-    ours.file[len / 2] ^= 1;
+    read_newest(&len);
+    ours.file[CONTENTS + 1] ^= 1;
     uint32_t file = wallathi_load(theirs.store, sizeof theirs.store, theirs.state, ours.file, len);
     theirs.store[100] ^= 1;
     uint32_t store = wallathi_next(theirs.store, sizeof theirs.store, theirs.state, 0, 0, &ms, &seq);
     theirs.store[100] ^= 1;
-    printf("damage      a file with one bit changed: %s (%" PRIu32 ")\n", wallathi_refusal_text(file), file);
-    printf("            a store with one bit changed: %s (%" PRIu32 ")\n", wallathi_refusal_text(store), store);
-    if (file != 16 || store != 2) {
-        exit(1);
+    printf("damage      a file with one bit changed: %s (%" PRIu32 ")\n", logger_text(&theirs, file), file);
+    printf("            a store with one bit changed: %s (%" PRIu32 ")\n", logger_text(&theirs, store), store);
+    if (file != WALLATHI_NO_SNAPSHOT || store != WALLATHI_DAMAGED) {
+        stop("damage", "it was not refused");
     }
 }
 
@@ -181,26 +188,26 @@ static size_t read_back(const char *path, int *first)
 {
     FILE *out = fopen(path, "w");
     if (out == NULL) {
-        stop(path, LOGGER_SYSTEM);
+        stop(path, "it cannot be written");
     }
     fprintf(out, "second\twest\tmiddle\teast\n");
     uint64_t ms = 0, seq = 0;
     size_t count = 0;
     *first = -1;
-    while (wallathi_next(ours.store, sizeof ours.store, ours.state, ms, seq, &ms, &seq) == 0) {
+    while (wallathi_next(ours.store, sizeof ours.store, ours.state, ms, seq, &ms, &seq) == WALLATHI_OK) {
         int second = (int)((ms - START_MS) / 1000);
         *first = *first < 0 ? second : *first;
         count = (size_t)(second - *first) + 1;
         fprintf(out, "%d", second);
         for (int station = 0; station < 3; station++) {
-            int32_t value = 0;
+            int64_t value = 0;
             uint32_t code = logger_sample(&ours, ms, seq, CHANNELS[station], &value);
-            if (code == 33) {
+            if (code == WALLATHI_ABSENT) {
                 fprintf(out, "\t");
                 continue;
             }
             must("field", code);
-            fprintf(out, "\t%" PRId32, value);
+            fprintf(out, "\t%" PRId64, value);
             if (station == 2) {
                 curve[count - 1].there = 1;
                 curve[count - 1].value = value;
@@ -210,14 +217,14 @@ static size_t read_back(const char *path, int *first)
         seq++;
     }
     if (fclose(out) != 0) {
-        stop(path, LOGGER_SYSTEM);
+        stop(path, "it cannot be written");
     }
     return count;
 }
 
 static void draw(const char *folder)
 {
-    char table[LOGGER_FOLDER_BYTES + 20], picture[LOGGER_FOLDER_BYTES + 20];
+    char table[FILES_FOLDER_BYTES + 20], picture[FILES_FOLDER_BYTES + 20];
     int first;
     size_t missing = 0, zeros = 0;
     snprintf(table, sizeof table, "%s/channels.tsv", folder);
@@ -227,8 +234,9 @@ static void draw(const char *folder)
         missing += !curve[i].there;
         zeros += curve[i].there && curve[i].value == 0;
     }
-    if (picture_write(picture, "The eastern station in the storm", curve, count) != 0) {
-        stop(picture, LOGGER_SYSTEM);
+    const struct picture words = {"The eastern station in the storm", "time, UTC, 11 November 2026", "microvolts per kilometre", first};
+    if (picture_write(picture, &words, curve, count) != 0) {
+        stop(picture, "it cannot be written");
     }
     printf("east        %zu seconds: %zu missing, left open; %zu measured as zero\n", count, missing, zeros);
     printf("            %s, %s\n", table, picture);
@@ -236,7 +244,7 @@ static void draw(const char *folder)
 
 int main(int argc, char **argv)
 {
-    char folder[LOGGER_FOLDER_BYTES];
+    char folder[FILES_FOLDER_BYTES];
     uint64_t loaded;
     if (argc != 2 || sizeof folder <= strlen(argv[1]) + 10) {
         fprintf(stderr, "usage: storm FOLDER\n");

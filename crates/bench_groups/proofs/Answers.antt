@@ -1,46 +1,41 @@
 -- What each function answers, return by return. Assumes nothing.
-use mathlib.Core.Path.{_≡_, refl, ap}
-use mathlib.Core.Bool.{true, false, not}
+use mathlib.Core.Path.{_≡_, refl}
+use mathlib.Core.Bool.{Bool, true, false, not}
 use mathlib.Core.List.{List}
+use mathlib.Core.Option.{Option}
 use Prim.Native.Nat.{ℕ, _+_, _≤_, _<_}
-use native.Mathlib.Omega.{arith}
 use lib.Dec.{leb}
 use lib.ListN.{length}
-use borrow.Author.Tests.{le-leb, lt-leb, leb-true}
+use Rattle.octets.specs.Pick.{pick, both}
+use borrow.Author.Tests.{le-leb, lt-leb, leb-true, ne-eqb}
 use Rattle.octets.specs.Bytes.{Bytes}
 use Rattle.octets.specs.Maybe.{isNone}
 use Rattle.octets.proofs.Laws.{both-true}
 use Rattle.id.specs.declared.Id.{Id}
 use Rattle.id.specs.Id.{greatest, below}
-use Rattle.groups.specs.declared.Judged.{Judged}
-use Rattle.groups.specs.declared.Judged.the-variants.{Free, Sound, Bad}
+use Rattle.groups.specs.Group.{pendingUpTo}
 use Rattle.groups.specs.Bytes.{regionBytes}
-use Rattle.groups.specs.Parse.{groupIn}
+use Rattle.groups.specs.Parse.{groupIn, isRegion, parseRegion}
 use Rattle.groups.specs.Step as step
-use Rattle.groups.specs.Answer.{judgeOf, SoundRegion}
+use Rattle.groups.specs.Answer.{SoundRegion}
 use Rattle.groups.specs.Area.{parseArea}
-use Rattle.groups.proofs.Laws.{judged-sound}
-use Rattle.groups_change.specs.declared.Delivery.{Delivery}
-use Rattle.groups_change.specs.declared.Claimed.{Claimed}
-use Rattle.groups_change.specs.Change.{deliverAnswer, deliverLeaves, foundCount, claimAnswer, claimedAs, claimLeaves}
-use Rattle.group_area.specs.declared.Created.{Created}
-use Rattle.group_area.specs.declared.Destroyed.{Destroyed}
-use Rattle.group_area.specs.Answer.{groupsIn, SoundArea, createOf, createdBytes, destroyOf, destroyedBytes}
+use Rattle.groups.proofs.Laws.{parse-sound}
+use Rattle.groups_change.specs.Change.{refusalToDeliver, unlessRefused, foundCount, refusalToClaim, claimMoves, claimedAs}
+use Rattle.group_area.specs.Answer.{groupsIn, SoundArea, refusalToCreate, createdBytes, refusalToDestroy, destroyedBytes}
 use Rattle.group_area.proofs.Laws.{judged-area}
-use Rattle.bench_groups.specs.Answer.{After, isSound, soundIn, isShort, deliveryNumber, delivers, acknowledges, claimedNumber, claims, drops, createdNumber, areaSound, creates, destroyedNumber, destroys}
-
-sound-case : (v : Judged) → isSound v ≡ true → v ≡ Sound
-sound-case Free e = absurd (let z : _≡_ {A = ℕ} 0 1 = cc in omega arith)
-sound-case Sound e = refl
-sound-case Bad e = absurd (let z : _≡_ {A = ℕ} 0 1 = cc in omega arith)
+use Rattle.bench_groups.specs.Answer.{After, soundIn, isShort, numberOf, delivers, acknowledges, claimNumber, claims, drops, areaSound, creates, destroys}
 
 pub region-sound : (s : List ℕ) → Bytes s → soundIn s ≡ true → SoundRegion s
-unfolding soundIn
-region-sound s b e = judged-sound greatest s b (sound-case (judgeOf greatest s) e) .sound
+unfolding soundIn parseRegion
+region-sound s b e = parse-sound s (groupIn s) b (rw (both-true (isRegion s) (pendingUpTo greatest (groupIn s .pending)) e .0)) .sound
 
-pub judged-in : (v : Judged) (s : List ℕ) → v ≡ judgeOf greatest s → isSound v ≡ soundIn s
+pub size-bad : (s : List ℕ) → (length s ≡ 7220 → ⊥) → false ≡ soundIn s
+unfolding soundIn isRegion
+size-bad s h = rw (ne-eqb (length s) 7220 h)
+
+pub region-judged : (s : List ℕ) → both (isRegion s) (pendingUpTo greatest (groupIn s .pending)) ≡ soundIn s
 unfolding soundIn
-judged-in v s e = ap isSound e
+region-judged s = refl
 
 pub area-sound : (s : List ℕ) → Bytes s → areaSound s ≡ true → SoundArea s
 unfolding areaSound
@@ -82,8 +77,8 @@ module _ (c : List ℕ) (t : ℕ) (i : Id) (s : List ℕ) where
       unfolding delivers
       deliver-old b = (rw (e, f, b), rw (e, f, b))
 
-      pub deliver-by : below (groupIn s .delivered) i ≡ true → (d : Delivery) → d ≡ deliverAnswer c (groupIn s)
-          → Is (delivers c t i s) (deliveryNumber d) (deliverLeaves d s (regionBytes (step.deliver c t i (groupIn s))))
+      pub deliver-by : below (groupIn s .delivered) i ≡ true → (d : Option ℕ) → d ≡ refusalToDeliver c (groupIn s)
+          → Is (delivers c t i s) (numberOf d) (unlessRefused d s (regionBytes (step.deliver c t i (groupIn s))))
       unfolding delivers
       deliver-by b d q = (rw (e, f, b, q), rw (e, f, b, q))
 
@@ -106,10 +101,10 @@ module _ (c : List ℕ) (least : ℕ) (i : Id) (t : ℕ) (s : List ℕ) where
     unfolding claims
     claim-name f = (rw (e, f), rw (e, f))
 
-    pub claim-by : isShort c ≡ true → (d : Claimed) → d ≡ claimAnswer c least i t (groupIn s)
-        → Is (claims c least i t s) (claimedNumber d) (claimLeaves d s (regionBytes (claimedAs c t (groupIn s) (step.findPending i (groupIn s .pending)))))
+    pub claim-by : isShort c ≡ true → (d : Option ℕ) (b : Bool) → d ≡ refusalToClaim c least i t (groupIn s) → b ≡ claimMoves c least i t (groupIn s)
+        → Is (claims c least i t s) (claimNumber d b) (pick b (regionBytes (claimedAs c t (groupIn s) (step.findPending i (groupIn s .pending)))) s)
     unfolding claims
-    claim-by f d q = (rw (e, f, q), rw (e, f, q))
+    claim-by f d b q m = (rw (e, f, q, m), rw (e, f, m))
 
 module _ (c s : List ℕ) where
   pub drop-bad : soundIn s ≡ false → Is (drops c s) 0 s
@@ -130,7 +125,7 @@ module _ (n : List ℕ) (start : Id) (s : List ℕ) where
     unfolding creates
     create-name f = (rw (e, f), rw (e, f))
 
-    pub create-by : isShort n ≡ true → (d : Created) → d ≡ createOf n (groupsIn s) → Is (creates n start s) (createdNumber d) (createdBytes d n start s)
+    pub create-by : isShort n ≡ true → (d : Option ℕ) → d ≡ refusalToCreate n (groupsIn s) → Is (creates n start s) (numberOf d) (createdBytes d n start s)
     unfolding creates
     create-by f d q = (rw (e, f, q), rw (e, f, q))
 
@@ -139,6 +134,6 @@ module _ (n s : List ℕ) where
   unfolding destroys
   destroy-bad e = (rw e, rw e)
 
-  pub destroy-by : areaSound s ≡ true → (d : Destroyed) → d ≡ destroyOf n (groupsIn s) → Is (destroys n s) (destroyedNumber d) (destroyedBytes d n s)
+  pub destroy-by : areaSound s ≡ true → (d : Option ℕ) → d ≡ refusalToDestroy n (groupsIn s) → Is (destroys n s) (numberOf d) (destroyedBytes d n s)
   unfolding destroys
   destroy-by e d q = (rw (e, q), rw (e, q))

@@ -1,6 +1,7 @@
 -- What each function answers to C, and the bytes that it leaves. Assumes nothing.
 use mathlib.Core.Bool.{Bool, true, false, not}
 use mathlib.Core.List.{List}
+use mathlib.Core.Option.{Option, some, none}
 use Prim.Native.Nat.{ℕ, _+_}
 use lib.Dec.{leb}
 use lib.ListN.{length}
@@ -8,24 +9,13 @@ use Rattle.octets.specs.Pick.{pick, both}
 use Rattle.octets.specs.Maybe.{isNone}
 use Rattle.id.specs.declared.Id.{Id}
 use Rattle.id.specs.Id.{greatest, below}
-use Rattle.groups.specs.declared.Judged.{Judged}
-use Rattle.groups.specs.declared.Judged.the-variants.{Free, Sound, Bad}
-use Rattle.groups.specs.Group.{longestName}
+use Rattle.groups.specs.Group.{longestName, pendingUpTo}
 use Rattle.groups.specs.Bytes.{regionBytes}
-use Rattle.groups.specs.Parse.{groupIn}
+use Rattle.groups.specs.Parse.{groupIn, isRegion}
 use Rattle.groups.specs.Step as step
-use Rattle.groups.specs.Answer.{judgeOf}
 use Rattle.groups.specs.Area.{parseArea}
-use Rattle.groups_change.specs.declared.Delivery.{Delivery}
-use Rattle.groups_change.specs.declared.Delivery.the-variants.{Done, Refused}
-use Rattle.groups_change.specs.declared.Claimed.{Claimed}
-use Rattle.groups_change.specs.declared.Claimed.the-variants.{Moved, NotMoved, Refused as ClaimRefused}
-use Rattle.groups_change.specs.Change.{deliverAnswer, deliverLeaves, foundCount, claimAnswer, claimedAs, claimLeaves}
-use Rattle.group_area.specs.declared.Created.{Created}
-use Rattle.group_area.specs.declared.Created.the-variants.{Done as Made, Refused as CreateRefused}
-use Rattle.group_area.specs.declared.Destroyed.{Destroyed}
-use Rattle.group_area.specs.declared.Destroyed.the-variants.{Done as Gone, Absent}
-use Rattle.group_area.specs.Answer.{groupsIn, createOf, createdBytes, destroyOf, destroyedBytes}
+use Rattle.groups_change.specs.Change.{refusalToDeliver, unlessRefused, foundCount, refusalToClaim, claimMoves, claimedAs}
+use Rattle.group_area.specs.Answer.{groupsIn, refusalToCreate, createdBytes, refusalToDestroy, destroyedBytes}
 
 abbrev pub asNumber : Bool → ℕ
 asNumber true = 1
@@ -39,27 +29,23 @@ pub record After : Type 0 where
 abbrev pub after : ℕ → List ℕ → After
 after n s = record { answer = n; bytes = s }
 
-abbrev pub isSound : Judged → Bool
-isSound Free = false
-isSound Sound = true
-isSound Bad = false
-
 unfoldable pub soundIn : List ℕ → Bool
-soundIn s = isSound (judgeOf greatest s)
+soundIn s = both (isRegion s) (pendingUpTo greatest (groupIn s .pending))
 
 unfoldable pub isShort : List ℕ → Bool
 isShort n = both (leb 1 (length n)) (leb (length n) longestName)
 
-abbrev pub deliveryNumber : Delivery → ℕ
-deliveryNumber Done = 0
-deliveryNumber (Refused n) = n
+-- a refusal's number, or 0
+abbrev pub numberOf : Option ℕ → ℕ
+numberOf none = 0
+numberOf (some n) = n
 
 unfoldable pub delivers : List ℕ → ℕ → Id → List ℕ → After
 delivers c now i s =
     pick (soundIn s)
     (pick (isShort c)
     (pick (below (groupIn s .delivered) i)
-    (after (deliveryNumber (deliverAnswer c (groupIn s))) (deliverLeaves (deliverAnswer c (groupIn s)) s (regionBytes (step.deliver c now i (groupIn s)))))
+    (after (numberOf (refusalToDeliver c (groupIn s))) (unlessRefused (refusalToDeliver c (groupIn s)) s (regionBytes (step.deliver c now i (groupIn s)))))
     (after 4 s))
     (after 3 s))
     (after 2 s)
@@ -68,17 +54,18 @@ unfoldable pub acknowledges : Id → List ℕ → After
 acknowledges i s =
     pick (soundIn s) (after (foundCount (step.findPending i (groupIn s .pending))) (regionBytes (step.acknowledge i (groupIn s)))) (after 2 s)
 
-abbrev pub claimedNumber : Claimed → ℕ
-claimedNumber Moved = 0
-claimedNumber NotMoved = 34
-claimedNumber (ClaimRefused n) = n
+-- 34, not moved
+abbrev pub claimNumber : Option ℕ → Bool → ℕ
+claimNumber (some n) moves = n
+claimNumber none true = 0
+claimNumber none false = 34
 
 unfoldable pub claims : List ℕ → ℕ → Id → ℕ → List ℕ → After
 claims c least i now s =
     pick (soundIn s)
     (pick (isShort c)
-    (after (claimedNumber (claimAnswer c least i now (groupIn s)))
-    (claimLeaves (claimAnswer c least i now (groupIn s)) s (regionBytes (claimedAs c now (groupIn s) (step.findPending i (groupIn s .pending))))))
+    (after (claimNumber (refusalToClaim c least i now (groupIn s)) (claimMoves c least i now (groupIn s)))
+    (pick (claimMoves c least i now (groupIn s)) (regionBytes (claimedAs c now (groupIn s) (step.findPending i (groupIn s .pending)))) s))
     (after 3 s))
     (after 2 s)
 
@@ -86,23 +73,15 @@ unfoldable pub drops : List ℕ → List ℕ → After
 drops c s =
     pick (soundIn s) (after (1 + length (step.pendingOf c (groupIn s .pending))) (regionBytes (step.dropConsumer c (groupIn s)))) (after 0 s)
 
-abbrev pub createdNumber : Created → ℕ
-createdNumber Made = 0
-createdNumber (CreateRefused n) = n
-
 unfoldable pub areaSound : List ℕ → Bool
 areaSound s = not (isNone (parseArea greatest s))
 
 unfoldable pub creates : List ℕ → Id → List ℕ → After
 creates n start s =
     pick (areaSound s)
-    (pick (isShort n) (after (createdNumber (createOf n (groupsIn s))) (createdBytes (createOf n (groupsIn s)) n start s)) (after 3 s))
+    (pick (isShort n) (after (numberOf (refusalToCreate n (groupsIn s))) (createdBytes (refusalToCreate n (groupsIn s)) n start s)) (after 3 s))
     (after 2 s)
-
-abbrev pub destroyedNumber : Destroyed → ℕ
-destroyedNumber Gone = 0
-destroyedNumber Absent = 9
 
 unfoldable pub destroys : List ℕ → List ℕ → After
 destroys n s =
-    pick (areaSound s) (after (destroyedNumber (destroyOf n (groupsIn s))) (destroyedBytes (destroyOf n (groupsIn s)) n s)) (after 2 s)
+    pick (areaSound s) (after (numberOf (refusalToDestroy n (groupsIn s))) (destroyedBytes (refusalToDestroy n (groupsIn s)) n s)) (after 2 s)

@@ -9,7 +9,6 @@ ghost use Rattle.groups.specs.Area.{parseArea};
 ghost use Rattle.bench_groups.specs.Answer.{asNumber, soundIn, isShort, delivers, acknowledges, claims, drops, creates, destroys};
 use group_area::Created;
 use group_area::Destroyed;
-use groups::Judged;
 use groups_change::Claimed;
 use groups_change::Delivery;
 use id::Id;
@@ -17,11 +16,10 @@ use id::Id;
 fn is_sound(region: &[u8]) -> bool
     ensures { λ r. ⌜ r ≡ soundIn (now (region .entry)) ⌝ }
 {
-    match groups::judge(region, Id::GREATEST) {
-        Judged::Free => false,
-        Judged::Sound => true,
-        Judged::Bad => false,
+    if region.len() != groups::REGION_BYTES {
+        return false;
     }
+    groups::is_region(region, Id::GREATEST)
 }
 
 fn is_short(name: &[u8]) -> bool

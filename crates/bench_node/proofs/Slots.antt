@@ -35,7 +35,7 @@ module _ (key : Id) (slot : List ℕ) where
   sound-slot t = by (judgeOf key least greatest slot) refl t
     where
       by : (j : Judged) → judgeOf key least greatest slot ≡ j → soundBy j ≡ true → SoundSlot key slot
-      by (Sound live dead last elements) q u = judged-sound key least greatest slot live dead last elements q .sound
+      by (Sound live dead last) q u = judged-sound key least greatest slot live dead last q .sound
       by Bad q u = absurd (let z : _≡_ {A = ℕ} 0 1 = ap asNumber u in omega arith)
 
   pub live-slot : 2 ≤ liveOf key slot → SoundSlot key slot × (2 ≤ liveCount (entriesIn key slot))
@@ -43,8 +43,8 @@ module _ (key : Id) (slot : List ℕ) where
   live-slot t = by (judgeOf key least greatest slot) refl t
     where
       by : (j : Judged) → judgeOf key least greatest slot ≡ j → 2 ≤ liveBy j → SoundSlot key slot × (2 ≤ liveCount (entriesIn key slot))
-      by (Sound live dead last elements) q u =
-          let s = judged-sound key least greatest slot live dead last elements q in
+      by (Sound live dead last) q u =
+          let s = judged-sound key least greatest slot live dead last q in
           (s .sound, omega (arith, s .live-is))
       by Bad q u = absurd (omega arith)
 

@@ -2,6 +2,7 @@
 use mathlib.Core.Path.{_≡_, refl, sym, ap, ap₂, _∙_, subst}
 use mathlib.Core.Bool.{true, false}
 use mathlib.Core.List.{List, [], _∷_, _++_}
+use mathlib.Core.Option.{some, none}
 use Prim.Native.Nat.{ℕ, suc, _+_, _-_, _*_, _≤_, _<_}
 use native.Mathlib.Omega.{arith}
 use lib.ListN.{length, take, drop, getD, take-append-drop}
@@ -18,9 +19,7 @@ use Rattle.groups.specs.Step.{putGroup, withoutGroup, newGroup}
 use Rattle.groups.specs.Answer.{spotFrom}
 use Rattle.groups.specs.Area.{mostGroups, namesOf, areGroups, areaBytes}
 use Rattle.groups.proofs.Laws.{known-spot, new-spot, Sound, sound, length-names, StandsAt, stands-at, missing-at}
-use Rattle.group_area.specs.declared.Created.the-variants.{Done as Made, Refused}
-use Rattle.group_area.specs.declared.Destroyed.the-variants.{Done as Gone, Absent}
-use Rattle.group_area.specs.Answer.{groupsIn, SoundArea, createOf, destroyOf}
+use Rattle.group_area.specs.Answer.{groupsIn, SoundArea, refusalToCreate, refusalToDestroy}
 use Rattle.group_area.proofs.Laid.{region-at, region-put, region-out, region-in}
 use Rattle.group_area.proofs.Found.{used-region, free-region}
 
@@ -59,12 +58,12 @@ module _ (s : List ℕ) (h : SoundArea s) where
       pub known-few : k < 8
       known-few = omega (arith, at .within, rules-of .few)
 
-      pub create-exists : createOf n (groupsIn s) ≡ Refused 10
-      unfolding createOf
+      pub create-exists : refusalToCreate n (groupsIn s) ≡ some 10
+      unfolding refusalToCreate
       create-exists = rw among
 
-      pub destroy-done : destroyOf n (groupsIn s) ≡ Gone
-      unfolding destroyOf
+      pub destroy-done : refusalToDestroy n (groupsIn s) ≡ none
+      unfolding refusalToDestroy
       destroy-done = rw among
 
       pub destroyed : put (put s (k * 7220) (area (k * 7220 + 7220) (50540 - k * 7220) s)) 50540 (zeros 7220) ≡ areaBytes (withoutGroup n (groupsIn s))
@@ -90,16 +89,16 @@ module _ (s : List ℕ) (h : SoundArea s) where
       unknown : isAmong n (namesOf gs) ≡ false
       unknown = new-spot [] 0 n (namesOf gs) k (rules-of .rising) e .unknown
 
-      pub destroy-absent : destroyOf n (groupsIn s) ≡ Absent
-      unfolding destroyOf
+      pub destroy-absent : refusalToDestroy n (groupsIn s) ≡ some 9
+      unfolding refusalToDestroy
       destroy-absent = rw unknown
 
-      pub create-full : 8 ≤ length (groupsIn s) → createOf n (groupsIn s) ≡ Refused 11
-      unfolding createOf
+      pub create-full : 8 ≤ length (groupsIn s) → refusalToCreate n (groupsIn s) ≡ some 11
+      unfolding refusalToCreate
       create-full l = rw (unknown, le-leb mostGroups (length gs) l)
 
-      pub create-done : length (groupsIn s) < 8 → createOf n (groupsIn s) ≡ Made
-      unfolding createOf
+      pub create-done : length (groupsIn s) < 8 → refusalToCreate n (groupsIn s) ≡ none
+      unfolding refusalToCreate
       create-done l = rw (unknown, lt-leb mostGroups (length gs) l)
 
       pub new-within : k ≤ length (groupsIn s)

@@ -13,7 +13,7 @@ use Rattle.id.specs.declared.Id.{Id}
 use Rattle.id.specs.Id.{greatest}
 use Rattle.groups.specs.declared.Spot.{Spot}
 use Rattle.groups.specs.declared.Spot.the-variants.{Known, New}
-use Rattle.groups.specs.declared.Place.the-variants.{At, Absent}
+use Rattle.groups.specs.declared.NamePlace.the-variants.{At, Absent}
 use Rattle.groups.specs.Group.{Group, isAmong, isGroup}
 use Rattle.groups.specs.Bytes.{regionBytes}
 use Rattle.groups.specs.Parse.{groupIn}

@@ -1,4 +1,4 @@
--- What the functions answer, in terms of the groups that an area holds. Assumes nothing.
+-- What the functions answer, in terms of the groups that an area holds; of a change, the refusal's number, if it is refused. Assumes nothing.
 use mathlib.Core.Path.{_≡_}
 use mathlib.Core.Bool.{true}
 use mathlib.Core.List.{List, []}
@@ -12,10 +12,6 @@ use Rattle.id.specs.Id.{greatest}
 use Rattle.groups.specs.Group.{Group, isAmong}
 use Rattle.groups.specs.Step.{putGroup, withoutGroup, newGroup}
 use Rattle.groups.specs.Area.{mostGroups, namesOf, isGroups, areaBytes, parseRegions}
-use Rattle.group_area.specs.declared.Created.{Created}
-use Rattle.group_area.specs.declared.Created.the-variants.{Done as Made, Refused}
-use Rattle.group_area.specs.declared.Destroyed.{Destroyed}
-use Rattle.group_area.specs.declared.Destroyed.the-variants.{Done as Gone, Absent}
 
 -- the groups that an area holds
 abbrev pub orNone : Option (List Group) → List Group
@@ -32,18 +28,18 @@ pub record SoundArea (s : List ℕ) : Type 0 where
   pub rules-kept : isGroups greatest (groupsIn s) ≡ true
 
 -- create: 10, the group exists; 11, there are 8 groups
-unfoldable pub createOf : List ℕ → List Group → Created
-createOf n gs = pick (isAmong n (namesOf gs)) (Refused 10) (pick (leb mostGroups (length gs)) (Refused 11) Made)
+unfoldable pub refusalToCreate : List ℕ → List Group → Option ℕ
+refusalToCreate n gs = pick (isAmong n (namesOf gs)) (some 10) (pick (leb mostGroups (length gs)) (some 11) none)
 
 -- the area after it; a refusal keeps every byte
-abbrev pub createdBytes : Created → List ℕ → Id → List ℕ → List ℕ
-createdBytes Made n start s = areaBytes (putGroup (newGroup n start) (groupsIn s))
-createdBytes (Refused k) n start s = s
+abbrev pub createdBytes : Option ℕ → List ℕ → Id → List ℕ → List ℕ
+createdBytes none n start s = areaBytes (putGroup (newGroup n start) (groupsIn s))
+createdBytes (some k) n start s = s
 
--- destroy: 9 is the caller's number for a group that is not there
-unfoldable pub destroyOf : List ℕ → List Group → Destroyed
-destroyOf n gs = pick (isAmong n (namesOf gs)) Gone Absent
+-- destroy: 9, no such group
+unfoldable pub refusalToDestroy : List ℕ → List Group → Option ℕ
+refusalToDestroy n gs = pick (isAmong n (namesOf gs)) none (some 9)
 
-abbrev pub destroyedBytes : Destroyed → List ℕ → List ℕ → List ℕ
-destroyedBytes Gone n s = areaBytes (withoutGroup n (groupsIn s))
-destroyedBytes Absent n s = s
+abbrev pub destroyedBytes : Option ℕ → List ℕ → List ℕ → List ℕ
+destroyedBytes none n s = areaBytes (withoutGroup n (groupsIn s))
+destroyedBytes (some k) n s = s

@@ -1,4 +1,4 @@
--- The exact rules' numbers (01, Refusal numbers) for each case of the enums that functions of this crate answer. Assumes nothing.
+-- The exact rules' number (01, Refusal numbers) of each case of the enums that create and destroy answer; done is no refusal. Assumes nothing.
 use mathlib.Core.Option.{Option, some, none}
 use Prim.Native.Nat.{ℕ}
 use Rattle.group_area.specs.declared.Created.{Created}

@@ -9,7 +9,8 @@ ghost use Rattle.groups.specs.Bytes.{regionBytes, regionSize};
 ghost use Rattle.groups.specs.Step.{newGroup};
 ghost use Rattle.groups.specs.Answer.{spotFrom};
 ghost use Rattle.groups.specs.Area.{namesOf};
-ghost use Rattle.group_area.specs.Answer.{groupsIn, SoundArea, createOf, createdBytes, destroyOf, destroyedBytes};
+ghost use Rattle.group_area.specs.Answer.{groupsIn, SoundArea, refusalToCreate, createdBytes, refusalToDestroy, destroyedBytes};
+ghost use Rattle.group_area.specs.Number.{createdRefusal, destroyedRefusal};
 use crate::Created;
 use crate::Destroyed;
 use crate::finding::spot_of;
@@ -34,7 +35,7 @@ fn write_new(r: &mut [u8], name: &[u8], start: Id)
 // At the region that the name would get.
 fn create_at(s: &mut [u8], k: usize, name: &[u8], start: Id) -> Created
     requires { ⌜ SoundArea (now s) × (1 ≤ length (now name)) × (length (now name) ≤ longestName) × (spotFrom 0 (now name) (namesOf (groupsIn (now s))) ≡ New k) ⌝ }
-    ensures { λ r. ⌜ (r ≡ createOf (now (name .entry)) (groupsIn (now (s .entry)))) × (now (s .exit) ≡ createdBytes r (now (name .entry)) start (now (s .entry))) ⌝ }
+    ensures { λ r. ⌜ (createdRefusal r ≡ refusalToCreate (now (name .entry)) (groupsIn (now (s .entry)))) × (now (s .exit) ≡ createdBytes (createdRefusal r) (now (name .entry)) start (now (s .entry))) ⌝ }
 {
     if s[LAST_REGION] != 0 {
         return Created::Refused(11);
@@ -47,7 +48,7 @@ fn create_at(s: &mut [u8], k: usize, name: &[u8], start: Id) -> Created
 
 pub fn create(s: &mut [u8], name: &[u8], start: Id) -> Created
     requires { ⌜ SoundArea (now s) × (1 ≤ length (now name)) × (length (now name) ≤ longestName) ⌝ }
-    ensures { λ r. ⌜ (r ≡ createOf (now (name .entry)) (groupsIn (now (s .entry)))) × (now (s .exit) ≡ createdBytes r (now (name .entry)) start (now (s .entry))) ⌝ }
+    ensures { λ r. ⌜ (createdRefusal r ≡ refusalToCreate (now (name .entry)) (groupsIn (now (s .entry)))) × (now (s .exit) ≡ createdBytes (createdRefusal r) (now (name .entry)) start (now (s .entry))) ⌝ }
 {
     match spot_of(s, name) {
         Spot::Known(_) => Created::Refused(10),
@@ -57,7 +58,7 @@ pub fn create(s: &mut [u8], name: &[u8], start: Id) -> Created
 
 pub fn destroy(s: &mut [u8], name: &[u8]) -> Destroyed
     requires { ⌜ SoundArea (now s) ⌝ }
-    ensures { λ r. ⌜ (r ≡ destroyOf (now (name .entry)) (groupsIn (now (s .entry)))) × (now (s .exit) ≡ destroyedBytes r (now (name .entry)) (now (s .entry))) ⌝ }
+    ensures { λ r. ⌜ (destroyedRefusal r ≡ refusalToDestroy (now (name .entry)) (groupsIn (now (s .entry)))) × (now (s .exit) ≡ destroyedBytes (destroyedRefusal r) (now (name .entry)) (now (s .entry))) ⌝ }
 {
     match spot_of(s, name) {
         Spot::New(_) => Destroyed::Absent,

@@ -5,7 +5,7 @@ ghost use Rattle.groups.specs.Answer.{spotFrom, placeIn};
 ghost use Rattle.groups.specs.Area.{namesOf};
 ghost use Rattle.group_area.specs.Answer.{groupsIn, SoundArea};
 use crate::AREA_BYTES;
-use groups::Place;
+use groups::NamePlace;
 use groups::REGION_BYTES;
 use groups::Spot;
 use octets::Order;
@@ -33,12 +33,12 @@ pub fn spot_of(s: &[u8], name: &[u8]) -> Spot
     Spot::New(k)
 }
 
-pub fn find(s: &[u8], name: &[u8]) -> Place
+pub fn find(s: &[u8], name: &[u8]) -> NamePlace
     requires { ⌜ SoundArea (now s) ⌝ }
     ensures { λ r. ⌜ r ≡ placeIn (now (name .entry)) (namesOf (groupsIn (now (s .entry)))) ⌝ }
 {
     match spot_of(s, name) {
-        Spot::Known(k) => Place::At(k),
-        Spot::New(_) => Place::Absent,
+        Spot::Known(k) => NamePlace::At(k),
+        Spot::New(_) => NamePlace::Absent,
     }
 }

@@ -1,7 +1,7 @@
 -- The parts of a body that make the region: its name, its last delivered ID and number of consumers, their names, its entries.
 -- Assumes nothing.
 use mathlib.Core.Path.{_≡_, refl, sym, ap, ap₂, _∙_, subst}
-use mathlib.Core.Bool.{true, false, not}
+use mathlib.Core.Bool.{true, not}
 use mathlib.Core.List.{List, [], _∷_, _++_, append-assoc}
 use mathlib.Core.Option.{Option, some, none}
 use Prim.Native.Nat.{ℕ, zero, suc, _+_, _-_, _*_, _≤_, _<_}
@@ -17,14 +17,13 @@ use Rattle.octets.specs.Place.{area, put}
 use Rattle.octets.proofs.Laws.{both-true, length-le, area-first, area-left, area-middle, length-area, getD-area, put-append, put-all, both-of}
 use Rattle.id.specs.Bytes.{idBytes}
 use Rattle.id.proofs.Laws.{length-id-bytes}
-use Rattle.groups.specs.Group.{Group, isName, areNames, isGroup}
+use Rattle.groups.specs.Group.{Group, isName, areNames}
 use Rattle.groups.specs.Bytes.{nameBytes, nameField, allNames, allNameFields, allPending, padded, bodyBytes, regionBytes}
-use Rattle.groups.specs.Parse.{nameIn, groupIn, parseBody}
-use Rattle.groups.specs.Answer.{SoundRegion}
-use Rattle.group_body.specs.Answer.{isNameAt, namesAt, areNamesAt, readInto}
+use Rattle.groups.specs.Parse.{nameIn, parseBody}
+use Rattle.group_body.specs.Answer.{isNameAt, namesAt, areNamesAt}
 use Rattle.group_body.proofs.Packed.{name-stands}
 use Rattle.group_body.proofs.Outward.{four-puts, length-body, body-parts}
-use Rattle.groups.proofs.Laws.{named, length-field, length-fields, Rules, rules, length-region, group-of-region, body-parse, body-bytes, length-padded, first-byte, name-at}
+use Rattle.groups.proofs.Laws.{named, length-field, length-fields, Rules, rules, length-region, body-bytes, length-padded, first-byte, name-at}
 
 -- names at a place
 names-step : (s : List ℕ) (left i n : ℕ) → 0 < left → n ≡ 1 + getD s i 0 → namesAt left (drop i s) ≡ nameIn (drop i s) ∷ namesAt (left - 1) (drop (i + n) s)
@@ -255,35 +254,3 @@ held-case s (some g) b e h =
 
 pub body-held : (s : List ℕ) → Bytes s → not (isNone (parseBody s)) ≡ true → BodyHeld s
 body-held s b h = held-case s (parseBody s) b refl h
-
--- what is no body leaves the region
-kept-case : (o : Option Group) (d : List ℕ) → not (isNone o) ≡ false → readInto o d ≡ d
-kept-case none d h = refl
-kept-case (some g) d h = absurd (let z : _≡_ {A = ℕ} 0 1 = cc in omega arith)
-
-pub no-body : (s d : List ℕ) → not (isNone (parseBody s)) ≡ false → readInto (parseBody s) d ≡ d
-no-body s d h = kept-case (parseBody s) d h
-
--- the body of a sound region, read into any region, gives the region back
-pub read-back : (s r : List ℕ) → SoundRegion s → readInto (parseBody (bodyBytes (groupIn s))) r ≡ s
-read-back s r h = ap (λ (o : Option Group). readInto o r) (body-parse (groupIn s) (h .rules-kept)) ∙ sym (h .laid)
-
--- a body that is read into a region leaves a sound one, and that region's body is the body
-pub record WrittenBack (s r : List ℕ) : Type 0 where
-  pub sound : SoundRegion (readInto (parseBody s) r)
-  pub body : bodyBytes (groupIn (readInto (parseBody s) r)) ≡ s
-
-back-case : (s : List ℕ) (o : Option Group) (r : List ℕ) → Bytes s → parseBody s ≡ o → not (isNone o) ≡ true → WrittenBack s r
-back-case s none r b e h = absurd (let z : _≡_ {A = ℕ} 0 1 = cc in omega arith)
-back-case s (some g) r b e h =
-    let q = body-bytes s g b e in
-    let i = group-of-region g (rules g (q .rules-kept)) in
-    let x : readInto (parseBody s) r ≡ regionBytes g = ap (λ (p : Option Group). readInto p r) e in
-    let k : groupIn (readInto (parseBody s) r) ≡ g = ap groupIn x ∙ i in
-    record {
-      sound = record { laid = x ∙ ap regionBytes (sym k); rules-kept = ap isGroup k ∙ q .rules-kept };
-      body = ap bodyBytes k ∙ sym (q .bytes);
-    }
-
-pub written-back : (s r : List ℕ) → Bytes s → not (isNone (parseBody s)) ≡ true → WrittenBack s r
-written-back s r b h = back-case s (parseBody s) r b refl h

@@ -7,6 +7,5 @@ mod writing;
 
 pub use checking::check_body;
 pub use reading::fill_region;
-pub use reading::read_body;
 pub use writing::body_size;
 pub use writing::write_body;

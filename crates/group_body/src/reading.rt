@@ -10,7 +10,6 @@ ghost use Rattle.groups.specs.Group.{mostConsumers};
 ghost use Rattle.groups.specs.Bytes.{padded, allNames, allNameFields, regionSize, fieldsAt, consumersBytes};
 ghost use Rattle.groups.specs.Parse.{parseBody};
 ghost use Rattle.group_body.specs.Answer.{readInto, namesAt, areNamesAt};
-use crate::checking::check_body;
 use groups::DELIVERED_AT;
 use groups::FIELD_BYTES;
 use groups::FIELDS_AT;
@@ -56,15 +55,4 @@ pub fn fill_region(s: &[u8], region: &mut [u8])
     octets::copy_in(region, DELIVERED_AT, &s[n..n + 17]);
     let end = read_names(s, n + 17, octets::wide(s[n + 16]) as usize, region);
     copy_padded(region, PENDING_AT, &s[end..s.len()], LAST_BYTES);
-}
-
-pub fn read_body(s: &[u8], region: &mut [u8]) -> bool
-    requires { ⌜ length (now region) ≡ regionSize ⌝ }
-    ensures { λ r. ⌜ (r ≡ not (isNone (parseBody (now (s .entry))))) × (now (region .exit) ≡ readInto (parseBody (now (s .entry))) (now (region .entry))) ⌝ }
-{
-    if !check_body(s) {
-        return false;
-    }
-    fill_region(s, region);
-    true
 }

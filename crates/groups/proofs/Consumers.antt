@@ -10,7 +10,7 @@ use Rattle.octets.specs.Compare.{same, orderOf, isLess, comesBefore}
 use Rattle.octets.specs.declared.Order.the-variants.{Less, Equal, Greater}
 use Rattle.octets.proofs.Laws.{both-true, mirror, pick-by, order-equal, order-mirror, same-refl, same-true, both-of, never, before-trans, before-differs}
 use Rattle.groups.specs.Group.{isName, areNames, namesAbove, isAmong}
-use Rattle.groups.specs.Bytes.{placeOf}
+use Rattle.groups.specs.Bytes.{placeOfName}
 use Rattle.groups.specs.Step.{withName, withoutName}
 use Rattle.groups.proofs.Names.{same-swap, after-differs}
 use Rattle.groups.proofs.Orders.{by-three}
@@ -177,14 +177,14 @@ module _ (n : List ℕ) where
   without-unknown (m ∷ ms) e = unknown-case m ms (withoutName n ms) (same n m) e (without-unknown ms)
 
   cut-case : (m : List ℕ) (ms : List (List ℕ)) (t : Bool) → same n m ≡ t → pick t true (isAmong n ms) ≡ true
-      → (isAmong n ms ≡ true → withoutName n ms ≡ take (placeOf n ms) ms ++ drop (suc (placeOf n ms)) ms)
-      → withoutName n (m ∷ ms) ≡ take (placeOf n (m ∷ ms)) (m ∷ ms) ++ drop (suc (placeOf n (m ∷ ms))) (m ∷ ms)
-  unfolding withoutName placeOf
+      → (isAmong n ms ≡ true → withoutName n ms ≡ take (placeOfName n ms) ms ++ drop (suc (placeOfName n ms)) ms)
+      → withoutName n (m ∷ ms) ≡ take (placeOfName n (m ∷ ms)) (m ∷ ms) ++ drop (suc (placeOfName n (m ∷ ms))) (m ∷ ms)
+  unfolding withoutName placeOfName
   cut-case m ms true e h r = rw e
   cut-case m ms false e h r =
-      let k : 1 + placeOf n ms ≡ suc (placeOf n ms) = omega arith in rw (e, k) (ap (λ (l : List (List ℕ)). m ∷ l) (r h))
+      let k : 1 + placeOfName n ms ≡ suc (placeOfName n ms) = omega arith in rw (e, k) (ap (λ (l : List (List ℕ)). m ∷ l) (r h))
 
-  pub without-cut : (ns : List (List ℕ)) → isAmong n ns ≡ true → withoutName n ns ≡ take (placeOf n ns) ns ++ drop (suc (placeOf n ns)) ns
+  pub without-cut : (ns : List (List ℕ)) → isAmong n ns ≡ true → withoutName n ns ≡ take (placeOfName n ns) ns ++ drop (suc (placeOfName n ns)) ns
   unfolding isAmong
   without-cut [] e = absurd (never refl (sym e))
   without-cut (m ∷ ms) e = cut-case m ms (same n m) refl e (without-cut ms)

@@ -18,7 +18,7 @@ use Rattle.id.specs.Id.{Fits64, isId, below, atMost}
 use Rattle.id.specs.Bytes.{idBytes, idFrom}
 use Rattle.id.proofs.Laws.{length-id-bytes, from-bytes-of, bytes-of-from, from-fits, id-fits, fits-id}
 use Rattle.groups.specs.Group.{Pending, mostCount, namesAbove, isAmong, isPending, arePending, pendingAbove, pendingUpTo}
-use Rattle.groups.specs.Bytes.{placeOf, pendingBytes, allPending}
+use Rattle.groups.specs.Bytes.{placeOfName, pendingBytes, allPending}
 use Rattle.groups.specs.Parse.{entryId, pendingIn, isEntry, allPendingIn, areEntries}
 use Rattle.groups.proofs.Names.{placed, place-getD, among-getD}
 
@@ -85,13 +85,13 @@ module _ (consumers : List (List ℕ)) (p : Pending) (z : List ℕ) where
   count-2 = length-le 2 (p .count)
 
   k : ℕ
-  k = placeOf (p .consumer) consumers
+  k = placeOfName (p .consumer) consumers
 
   pub length-entry : length (pendingBytes consumers p) ≡ 27
   unfolding pendingBytes k
   length-entry = length-row (idBytes (p .id)) k (le 8 (p .time)) (le 2 (p .count)) z (length-id-bytes (p .id)) time-8 count-2
 
-  pub entry-place : getD (pendingBytes consumers p ++ z) 16 0 ≡ placeOf (p .consumer) consumers
+  pub entry-place : getD (pendingBytes consumers p ++ z) 16 0 ≡ placeOfName (p .consumer) consumers
   unfolding pendingBytes k
   entry-place = row-place (idBytes (p .id)) k (le 8 (p .time)) (le 2 (p .count)) z (length-id-bytes (p .id)) time-8 count-2
 
@@ -191,7 +191,7 @@ entries-kept consumers above most (p ∷ ps) t e r m =
     let d : drop 27 s ≡ u = ap (drop 27) a ∙ drop-at (pendingBytes consumers p) u 27 (length-entry consumers p []) in
     let f = entry consumers p (x .0) in
     let i : entryId s ≡ p .id = ap entryId a ∙ entry-id consumers p u f in
-    let k : getD s 16 0 ≡ placeOf (p .consumer) consumers = ap (λ (l : List ℕ). getD l 16 0) a ∙ entry-place consumers p u in
+    let k : getD s 16 0 ≡ placeOfName (p .consumer) consumers = ap (λ (l : List ℕ). getD l 16 0) a ∙ entry-place consumers p u in
     let c : leValue (area 25 2 s) ≡ p .count = ap (λ (l : List ℕ). leValue (area 25 2 l)) a ∙ entry-count consumers p u f in
     let g = entries-kept consumers (p .id) most ps t (x .1) (y .1) (w .1) in
     record {

@@ -2,7 +2,7 @@
 use mathlib.Core.Path.{_≡_, refl, sym, ap, _∙_, subst}
 use mathlib.Core.Bool.{Bool, true, false}
 use mathlib.Core.List.{List, [], _∷_}
-use mathlib.Core.Option.{some, none}
+use mathlib.Core.Option.{some}
 use Prim.Native.Nat.{ℕ}
 use native.Mathlib.Omega.{arith}
 use Rattle.octets.specs.Pick.{pick}
@@ -19,9 +19,9 @@ use Rattle.groups.proofs.Names.{before-less, after-differs}
 use Rattle.groups.proofs.Entries.{entry}
 use Rattle.groups.proofs.Rules.{rules}
 use Rattle.groups.proofs.Kept.{up-to-later}
-use Rattle.groups.proofs.Consumers.{by-name, greater-before, equal-same, among-first, among-later, not-among}
+use Rattle.groups.proofs.Consumers.{by-name, greater-before, equal-same, among-first, among-later}
 use Rattle.groups.proofs.Groups.{First, first, joined, sound, are-sound}
-use Rattle.groups.proofs.Listed.{find-unknown, find-first, find-later, put-less, put-equal, put-greater, put-none}
+use Rattle.groups.proofs.Listed.{find-first, find-later, put-less, put-equal, put-greater, put-none}
 
 -- every pending ID is at most the greatest ID
 up-to-greatest : (cs : List (List ℕ)) (ps : List Pending) → arePending cs ps ≡ true → pendingUpTo greatest ps ≡ true
@@ -164,22 +164,3 @@ module _ (n : List ℕ) (g : Group) where
 
   pub put-found-same : (last : Id) (gs : List Group) → isGroups last gs ≡ true → findGroup n gs ≡ some g → putGroup g gs ≡ gs
   put-found-same last gs e f = put-above [] gs (sound last gs e .rising) f
-
--- taken out, it is not found again
-gone-case : (n a : List ℕ) (g : Group) (gs hs : List Group) (t : Bool) → same n (g .name) ≡ t → namesAbove a (namesOf (g ∷ gs)) ≡ true
-    → findGroup n hs ≡ none → findGroup n (pick t gs (g ∷ hs)) ≡ none
-unfolding namesAbove
-gone-case n a g gs hs true e k r =
-    find-unknown n gs
-    (ap (λ (m : List ℕ). isAmong m (namesOf gs)) (same-true n (g .name) e) ∙ not-among (g .name) (namesOf gs) (both-true (comesBefore a (g .name)) (namesAbove (g .name) (namesOf gs)) k .1))
-gone-case n a g gs hs false e k r = find-later n g hs e ∙ r
-
-gone-above : (n a : List ℕ) (gs : List Group) → namesAbove a (namesOf gs) ≡ true → findGroup n (withoutGroup n gs) ≡ none
-unfolding withoutGroup namesAbove
-gone-above n a [] k = unfold findGroup in refl
-gone-above n a (g ∷ gs) k =
-    gone-case n a g gs (withoutGroup n gs) (same n (g .name)) refl k
-    (gone-above n (g .name) gs (both-true (comesBefore a (g .name)) (namesAbove (g .name) (namesOf gs)) k .1))
-
-pub find-without : (last : Id) (n : List ℕ) (gs : List Group) → isGroups last gs ≡ true → findGroup n (withoutGroup n gs) ≡ none
-find-without last n gs e = gone-above n [] gs (sound last gs e .rising)

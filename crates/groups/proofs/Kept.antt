@@ -1,12 +1,12 @@
 -- What happens to a group keeps its rules, and a pending ID has one consumer. Assumes nothing.
 use mathlib.Core.Path.{_≡_, refl, sym, ap, _∙_}
-use mathlib.Core.Bool.{Bool, true, false}
+use mathlib.Core.Bool.{Bool, true, false, not}
 use mathlib.Core.List.{List, [], _∷_, List·Memᴰ}
 use mathlib.Core.Option.{some}
 use Prim.Native.Nat.{ℕ, suc, _+_, _^_, _≤_, _<_, min}
 use native.Mathlib.Omega.{arith}
 use lib.Dec.{leb}
-use lib.ListN.{length, getD, length-append}
+use lib.ListN.{length, length-append}
 use borrow.Author.Tests.{leb-false}
 use Rattle.octets.specs.Pick.{pick, both}
 use Rattle.octets.specs.Compare.{same}
@@ -15,10 +15,9 @@ use Rattle.id.specs.declared.Id.{Id}
 use Rattle.id.specs.Id.{Fits64, least, below, atMost}
 use Rattle.id.proofs.Laws.{at-most-refl, at-most-trans, below-at-most, at-most-below-trans, least-at-most}
 use Rattle.groups.specs.Group.{Pending, Group, isName, namesAbove, isAmong, isPending, arePending, pendingUpTo, isGroup}
-use Rattle.groups.specs.Bytes.{placeOf}
-use Rattle.groups.specs.Step.{withName, withoutName, findPending, putPending, withoutPending, pendingOfOthers, deliver, acknowledge, claim, dropConsumer}
-use Rattle.groups.specs.Answer.{lacksConsumer, withConsumer}
-use Rattle.groups.proofs.Names.{named, empty-before, place-getD}
+use Rattle.groups.specs.Step.{withName, withoutName, findPending, putPending, withoutPending, pendingOfOthers, deliver, acknowledge, claim, dropConsumer, lacksConsumer}
+use Rattle.groups.specs.Answer.{withConsumer}
+use Rattle.groups.proofs.Names.{named, empty-before}
 use Rattle.groups.proofs.Entries.{Entry, entry, is-pending}
 use Rattle.groups.proofs.Rules.{Rules, rules, is-group}
 use Rattle.groups.proofs.Pendings.{up-to-all, entries-all, all-weaker, all-member, all-within, all-put, above-put, above-within, length-within, put-last, stands, length-put-found, found-above, only-entry, without-within, others-within}
@@ -59,7 +58,7 @@ length-with n (m ∷ ms) =
     (λ o. rw (with-greater n m ms o) (let h = length-with n ms in omega arith))
 
 few-case : (c : List ℕ) (cs : List (List ℕ)) (t : Bool) → isAmong c cs ≡ t → namesAbove [] cs ≡ true → length cs ≤ 16
-    → both (pick t false true) (leb 16 (length cs)) ≡ false → length (withName c cs) ≤ 16
+    → both (not t) (leb 16 (length cs)) ≡ false → length (withName c cs) ≤ 16
 few-case c cs true e r h k = rw (with-known c [] cs r e) h
 few-case c cs false e r h k = let q : length cs < 16 = leb-false 16 (length cs) k in omega (arith, length-with c cs)
 
@@ -214,13 +213,12 @@ module _ (last : Id) (g : Group) (u : pendingUpTo last (g .pending) ≡ true) wh
       ∙ all-within (λ p. atMost (p .id) last) (others-within c (g .pending)) (sym (up-to-all last (g .pending)) ∙ u)
 
 -- in each group a pending ID has exactly one consumer: the entry that is found is the ID's only one, and its consumer is one of the
--- group's, at one place
+-- group's
 pub record OneConsumer (g : Group) (i : Id) (p : Pending) : Type 0 where
   pub same-id : p .id ≡ i
   pub member : List·Memᴰ p (g .pending)
   pub only : (q : Pending) → List·Memᴰ q (g .pending) → q .id ≡ i → q ≡ p
   pub among : isAmong (p .consumer) (g .consumers) ≡ true
-  pub one-place : (k : ℕ) → k < length (g .consumers) → getD (g .consumers) k [] ≡ p .consumer → k ≡ placeOf (p .consumer) (g .consumers)
 
 pub one-consumer : (g : Group) (i : Id) (p : Pending) → isGroup g ≡ true → findPending i (g .pending) ≡ some p → OneConsumer g i p
 one-consumer g i p e f =
@@ -231,5 +229,4 @@ one-consumer g i p e f =
       member = s .member;
       only = λ q m h. only-entry least (g .pending) q p (r .above) m (s .member) (h ∙ sym (s .same-id));
       among = found-entry i p g r f .among;
-      one-place = λ k h x. sym (place-getD [] (g .consumers) k (r .rising) h) ∙ ap (λ (n : List ℕ). placeOf n (g .consumers)) x;
     }

@@ -1,19 +1,19 @@
 -- What callers cite. Assumes nothing.
 --   Regions    a region is read as a group exactly when it has the group's bytes and the group keeps the rules
 --   Bodies     the same of a body in a snapshot
---   Verdicts   a sound region, and what judge says of one
+--   Verdicts   what a sound region is
 --   Rules      the rules of a group, one by one
 --   Kept       what happens to a group keeps its rules; in each group a pending ID has one consumer (one-consumer)
 --   Groups     the rules of all groups, one by one
 --   Areas      an area is read as groups exactly when it has their bytes and they keep the rules (area-parse, area-bytes)
 --   Listed     the groups by rising name: the place of one, one put in or taken out
 --   Finding    the group that is found, put back, taken out; the rules with a later last ID (groups-later)
---   Steps      each step: its name, the number of its entries, where it changes nothing, the rules of all groups (deliver-groups ..)
+--   Steps      each step: its name, where it changes nothing, the rules of all groups (deliver-groups ..)
 --   Names, Fields, Entries, Parts, Turns    names and entries in a region and in a body, written and read
 --   Pendings, Consumers, Spots, Searched    sorted lists: one put in, taken out, found
 pub use Rattle.groups.proofs.Regions.{length-region, region-name, region-delivered, region-count, region-number, region-entries, group-of-region, is-region, Tested, tested, region-parse, RegionRead, region-bytes}
 pub use Rattle.groups.proofs.Bodies.{taken, takenNames, value-one, body-parse, BodyRead, body-bytes}
-pub use Rattle.groups.proofs.Verdicts.{region-unnamed, zero-no-field, used-not-zero, sound-tested, sound-parse, group-in, sound-region, ParsedSound, parse-sound, JudgedSound, judged-sound}
+pub use Rattle.groups.proofs.Verdicts.{region-unnamed, zero-no-field, used-not-zero, sound-tested, sound-parse, group-in, sound-region, ParsedSound, parse-sound}
 pub use Rattle.groups.proofs.Rules.{Rules, rules, is-group}
 pub use Rattle.groups.proofs.Kept.{up-to-later, entries-with, entries-without, rules-with, withEntry, rules-entry, deliver-kept, claim-kept, acknowledge-rules, drop-rules, acknowledge-kept, drop-kept, deliver-up-to, claim-up-to, acknowledge-up-to, drop-up-to, OneConsumer, one-consumer}
 pub use Rattle.groups.proofs.Names.{Named, named, is-name, rising-above, above-rising, Placed, placed, place-getD, among-getD, after-differs, same-swap, empty-before}
@@ -29,5 +29,5 @@ pub use Rattle.groups.proofs.Searched.{names-from, consumers-counted, e
 pub use Rattle.groups.proofs.Groups.{First, first, joined, Sound, sound, are-sound, not-free, length-regions, regions-append}
 pub use Rattle.groups.proofs.Areas.{parse-free, parse-used, regions-parse, RegionsRead, regions-bytes, length-area-bytes, length-groups-area, area-parse, AreaRead, area-bytes}
 pub use Rattle.groups.proofs.Listed.{length-names, StandsAt, stands-at, Missing, missing-at, find-unknown, put-kept, new-kept, without-kept, new-is-group, new-up-to}
-pub use Rattle.groups.proofs.Finding.{groups-greatest, groups-later, found-kept, FoundNamed, found-named, put-found-same, find-put, find-put-other, find-without, find-without-other}
-pub use Rattle.groups.proofs.Steps.{deliver-name, acknowledge-name, claim-name, drop-name, deliver-length, acknowledge-length, claim-length, drop-length, acknowledge-missing, drop-unknown, count-unknown, found-is-group, found-up-to, deliver-groups, acknowledge-groups, claim-groups, drop-groups, create-groups, destroy-groups}
+pub use Rattle.groups.proofs.Finding.{groups-greatest, groups-later, found-kept, FoundNamed, found-named, put-found-same, find-put, find-put-other, find-without-other}
+pub use Rattle.groups.proofs.Steps.{deliver-name, acknowledge-name, claim-name, drop-name, acknowledge-missing, drop-unknown, count-unknown, found-is-group, found-up-to, deliver-groups, acknowledge-groups, claim-groups, drop-groups, create-groups, destroy-groups}

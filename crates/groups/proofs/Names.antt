@@ -14,7 +14,7 @@ use Rattle.octets.specs.Compare.{same, orderOf, comesBefore}
 use Rattle.octets.specs.declared.Order.the-variants.{Less}
 use Rattle.octets.proofs.Laws.{both-true, same-refl, same-true, both-of, never, are-bytes, bytes-are, is-less, before-trans, before-differs}
 use Rattle.groups.specs.Group.{isName, areNames, namesAbove, risingNames, isAmong}
-use Rattle.groups.specs.Bytes.{placeOf}
+use Rattle.groups.specs.Bytes.{placeOfName}
 
 -- a name of 1 to 16 bytes
 pub record Named (n : List ℕ) : Type 0 where
@@ -72,8 +72,8 @@ above-getD a (n ∷ ns) (suc i) e h =
     let p = both-true (comesBefore a n) (namesAbove n ns) e in
     before-trans a n (getD ns i []) (p .0) (above-getD n ns i (p .1) (omega arith))
 
-pub place-getD : (a : List ℕ) (ns : List (List ℕ)) (i : ℕ) → namesAbove a ns ≡ true → i < length ns → placeOf (getD ns i []) ns ≡ i
-unfolding namesAbove placeOf
+pub place-getD : (a : List ℕ) (ns : List (List ℕ)) (i : ℕ) → namesAbove a ns ≡ true → i < length ns → placeOfName (getD ns i []) ns ≡ i
+unfolding namesAbove placeOfName
 place-getD a [] i e h = absurd (omega arith)
 place-getD a (n ∷ ns) zero e h = rw (same-refl n)
 place-getD a (n ∷ ns) (suc i) e h =
@@ -93,16 +93,16 @@ among-getD (n ∷ ns) (suc i) h = rw (among-getD ns i (omega arith)) (pick-true 
 
 -- a name among the names stands at its place
 pub record Placed (n : List ℕ) (ns : List (List ℕ)) : Type 0 where
-  pub within : placeOf n ns < length ns
-  pub stands : getD ns (placeOf n ns) [] ≡ n
+  pub within : placeOfName n ns < length ns
+  pub stands : getD ns (placeOfName n ns) [] ≡ n
 
 placed-case : (n m : List ℕ) (ms : List (List ℕ)) (t : Bool) → same n m ≡ t → pick t true (isAmong n ms) ≡ true
     → (isAmong n ms ≡ true → Placed n ms) → Placed n (m ∷ ms)
-unfolding placeOf
+unfolding placeOfName
 placed-case n m ms true e h r = record { within = rw e (omega arith); stands = rw e (sym (same-true n m e)) }
 placed-case n m ms false e h r =
     let p = r h in
-    let q : 1 + placeOf n ms ≡ suc (placeOf n ms) = omega arith in
+    let q : 1 + placeOfName n ms ≡ suc (placeOfName n ms) = omega arith in
     record { within = rw e (omega (arith, p .within)); stands = rw (e, q) (p .stands) }
 
 pub placed : (n : List ℕ) (ns : List (List ℕ)) → isAmong n ns ≡ true → Placed n ns

@@ -2,13 +2,14 @@
 use mathlib.Core.Path.{_≡_, refl, sym, ap, _∙_}
 use mathlib.Core.Bool.{Bool, true, false}
 use mathlib.Core.List.{List, [], _∷_}
-use mathlib.Core.Option.{some}
+use mathlib.Core.Option.{Option, some, none}
 use Prim.Native.Nat.{ℕ, zero, suc, _+_, _-_, _≤_, _<_}
 use native.Mathlib.Nat.{zero-add}
 use native.Mathlib.Omega.{arith}
 use lib.Dec.{eqb}
 use lib.ListN.{length, getD, drop}
 use lib.Seq.{drop-drop, getD-drop}
+use borrow.Author.Tests.{eqb-true}
 use Rattle.octets.specs.Pick.{pick, both}
 use Rattle.octets.specs.Bytes.{leValue}
 use Rattle.octets.specs.Place.{area}
@@ -19,15 +20,14 @@ use Rattle.id.specs.declared.Id.{Id}
 use Rattle.id.specs.Id.{below, sameId}
 use Rattle.id.specs.Bytes.{idFrom}
 use Rattle.groups.specs.declared.Spot.the-variants.{Known, New}
-use Rattle.groups.specs.declared.Held.{Held}
-use Rattle.groups.specs.declared.Held.the-variants.{Entry, Missing}
-use Rattle.groups.specs.declared.Next.{Next}
-use Rattle.groups.specs.declared.Next.the-variants.{Given, Nothing}
+use Rattle.groups.specs.declared.PendingEntry.{PendingEntry}
+use Rattle.groups.specs.declared.PendingEntry.the-variants.{Entry, Missing}
+use Rattle.groups.specs.declared.NextEntry.the-variants.{Given}
 use Rattle.groups.specs.Group.{Pending, Group, namesAbove, isAmong, isPending, arePending}
-use Rattle.groups.specs.Bytes.{placeOf}
-use Rattle.groups.specs.Parse.{nameIn, namesIn, entryId, pendingIn, allPendingIn, consumersIn, entriesIn, groupIn}
+use Rattle.groups.specs.Bytes.{placeOfName}
+use Rattle.groups.specs.Parse.{nameIn, namesIn, entryId, pendingIn, allPendingIn, consumerCountIn, pendingCountIn, groupIn}
 use Rattle.groups.specs.Step.{findPending, pendingOf, firstAbove, nextPending}
-use Rattle.groups.specs.Answer.{spotFrom, placeOfId, heldAs, heldIn, nextAs}
+use Rattle.groups.specs.Answer.{spotFrom, placeOfId, heldAs, heldIn, entryGiven}
 use Rattle.groups.proofs.Fields.{length-names-in}
 use Rattle.groups.proofs.Entries.{entry, length-pending-in}
 use Rattle.groups.proofs.Rules.{Rules}
@@ -36,13 +36,13 @@ use Rattle.groups.proofs.Spots.{place-among, same-place, none-of}
 
 -- the numbers of consumers and of entries, and the lists that the searches go through
 module _ (s : List ℕ) where
-  pub consumers-counted : length (groupIn s .consumers) ≡ consumersIn s
+  pub consumers-counted : length (groupIn s .consumers) ≡ consumerCountIn s
   unfolding groupIn
-  consumers-counted = length-names-in (consumersIn s) (drop 34 s)
+  consumers-counted = length-names-in (consumerCountIn s) (drop 34 s)
 
-  pub entries-counted : length (groupIn s .pending) ≡ entriesIn s
+  pub entries-counted : length (groupIn s .pending) ≡ pendingCountIn s
   unfolding groupIn
-  entries-counted = length-pending-in (entriesIn s) (namesIn (consumersIn s) (drop 34 s)) (drop 308 s)
+  entries-counted = length-pending-in (pendingCountIn s) (namesIn (consumerCountIn s) (drop 34 s)) (drop 308 s)
 
   pub names-from : (n : ℕ) → n ≡ length (groupIn s .consumers) → namesIn n (drop 34 s) ≡ groupIn s .consumers
   unfolding groupIn
@@ -50,7 +50,7 @@ module _ (s : List ℕ) where
 
   pub pending-from : (n : ℕ) → n ≡ length (groupIn s .pending) → allPendingIn n (groupIn s .consumers) (drop 308 s) ≡ groupIn s .pending
   unfolding groupIn
-  pending-from n e = ap (λ (k : ℕ). allPendingIn k (namesIn (consumersIn s) (drop 34 s)) (drop 308 s)) (e ∙ entries-counted)
+  pending-from n e = ap (λ (k : ℕ). allPendingIn k (namesIn (consumerCountIn s) (drop 34 s)) (drop 308 s)) (e ∙ entries-counted)
 
 -- the parts of the entry at a place
 module _ (cs : List (List ℕ)) (at : ℕ) (s : List ℕ) where
@@ -96,7 +96,7 @@ module _ (k : ℕ) (n : List ℕ) (left at : ℕ) (s : List ℕ) where
       go (suc m) q = absurd (omega arith)
 
 -- an ID's entry among the entries that are left
-abbrev pub heldFrom : List (List ℕ) → ℕ → Id → List Pending → Held
+abbrev pub heldFrom : List (List ℕ) → ℕ → Id → List Pending → PendingEntry
 heldFrom cs k i ps = heldAs cs (k + placeOfId i ps) (findPending i ps)
 
 pub held-start : (s : List ℕ) (n : ℕ) (i : Id) → n ≡ length (groupIn s .pending)
@@ -131,8 +131,8 @@ module _ (cs : List (List ℕ)) (k : ℕ) (i : Id) (left at : ℕ) (s : List ℕ
   unfolding p later arePending
   held-found r a e =
       let x = both-true (isPending cs p) (arePending cs later) (rw (pending-step left cs at s h) at a) in
-      let c : placeOf (p .consumer) cs ≡ getD s (at + 16) 0 =
-      ap (λ (n : List ℕ). placeOf n cs) (consumer-of cs at s)
+      let c : placeOfName (p .consumer) cs ≡ getD s (at + 16) 0 =
+      ap (λ (n : List ℕ). placeOfName n cs) (consumer-of cs at s)
       ∙ place-among cs r (getD s (at + 16) 0) (ap (λ (n : List ℕ). isAmong n cs) (sym (consumer-of cs at s)) ∙ entry cs p (x .0) .among) in
       let t = time-of cs at s in
       let n = count-of cs at s in
@@ -141,7 +141,7 @@ module _ (cs : List (List ℕ)) (k : ℕ) (i : Id) (left at : ℕ) (s : List ℕ
       ∙ held-here e
       ∙ (λ j. Entry (q j) (c j) (t j) (n j))
     where
-      held-here : sameId (idFrom (area at 16 s)) i ≡ true → heldFrom cs k i (p ∷ later) ≡ Entry (k + 0) (placeOf (p .consumer) cs) (p .time) (p .count)
+      held-here : sameId (idFrom (area at 16 s)) i ≡ true → heldFrom cs k i (p ∷ later) ≡ Entry (k + 0) (placeOfName (p .consumer) cs) (p .time) (p .count)
       held-here f = unfold placeOfId findPending in (rw (id-of cs at s, f))
 
 pub held-done : (cs : List (List ℕ)) (k : ℕ) (i : Id) (left at : ℕ) (s : List ℕ) → left ≤ 0 → heldFrom cs k i (allPendingIn left cs (drop at s)) ≡ Missing
@@ -150,20 +150,16 @@ held-done cs k i left at s h = ap (heldFrom cs k i) (pending-done left cs (drop 
 
 -- a consumer's next entry among the entries that are left
 next-case : (after : Id) (p : Pending) (xs : List Pending) (t : Bool)
-    → nextAs (firstAbove after (pick t (p ∷ xs) xs)) ≡ pick (both t (below after (p .id))) (nextAs (some p)) (nextAs (firstAbove after xs))
+    → firstAbove after (pick t (p ∷ xs) xs) ≡ pick (both t (below after (p .id))) (some p) (firstAbove after xs)
 unfolding firstAbove
-next-case after p xs true = go (below after (p .id))
-  where
-    go : (u : Bool) → nextAs (pick u (some p) (firstAbove after xs)) ≡ pick u (nextAs (some p)) (nextAs (firstAbove after xs))
-    go true = refl
-    go false = refl
+next-case after p xs true = refl
 next-case after p xs false = refl
 
-abbrev pub nextFrom : List ℕ → Id → List Pending → Next
-nextFrom c after ps = nextAs (firstAbove after (pendingOf c ps))
+abbrev pub nextFrom : List ℕ → Id → List Pending → Option Pending
+nextFrom c after ps = firstAbove after (pendingOf c ps)
 
 next-step : (c : List ℕ) (after : Id) (p : Pending) (ps : List Pending)
-    → nextFrom c after (p ∷ ps) ≡ pick (both (same c (p .consumer)) (below after (p .id))) (nextAs (some p)) (nextFrom c after ps)
+    → nextFrom c after (p ∷ ps) ≡ pick (both (same c (p .consumer)) (below after (p .id))) (some p) (nextFrom c after ps)
 unfolding pendingOf
 next-step c after p ps = next-case after p (pendingOf c ps) (same c (p .consumer))
 
@@ -171,12 +167,12 @@ next-step c after p ps = next-case after p (pendingOf c ps) (same c (p .consumer
 module _ (cs : List (List ℕ)) (rising : namesAbove [] cs ≡ true) (k : ℕ) (low : k < length cs) (after : Id) (left at : ℕ) (s : List ℕ) (h : 0 < left) where
   next-tested : (t : Bool) → both (eqb (getD (drop at s) 16 0) k) (below after (entryId (drop at s))) ≡ t
       → nextFrom (getD cs k []) after (allPendingIn left cs (drop at s))
-      ≡ pick t (nextAs (some (pendingIn cs (drop at s)))) (nextFrom (getD cs k []) after (allPendingIn (left - 1) cs (drop (at + 27) s)))
+      ≡ pick t (some (pendingIn cs (drop at s))) (nextFrom (getD cs k []) after (allPendingIn (left - 1) cs (drop (at + 27) s)))
   next-tested t e =
       let x : ℕ = getD (drop at s) 16 0 in
       ap (nextFrom (getD cs k []) after) (pending-step left cs at s h)
       ∙ next-step (getD cs k []) after (pendingIn cs (drop at s)) (allPendingIn (left - 1) cs (drop (at + 27) s))
-      ∙ ap (λ (b : Bool). pick b (nextAs (some (pendingIn cs (drop at s)))) (nextFrom (getD cs k []) after (allPendingIn (left - 1) cs (drop (at + 27) s))))
+      ∙ ap (λ (b : Bool). pick b (some (pendingIn cs (drop at s))) (nextFrom (getD cs k []) after (allPendingIn (left - 1) cs (drop (at + 27) s))))
       (ap (λ (b : Bool). both b (below after (pendingIn cs (drop at s) .id))) (same-in ∙ same-place cs rising k x low) ∙ id-in ∙ e)
     where
       same-in : same (getD cs k []) (pendingIn cs (drop at s) .consumer) ≡ same (getD cs k []) (getD cs (getD (drop at s) 16 0) [])
@@ -190,23 +186,26 @@ module _ (cs : List (List ℕ)) (rising : namesAbove [] cs ≡ true) (k : ℕ) (
   next-other e = next-tested false e
 
   pub next-found : both (eqb (getD (drop at s) 16 0) k) (below after (entryId (drop at s))) ≡ true
-      → nextFrom (getD cs k []) after (allPendingIn left cs (drop at s)) ≡ Given (idFrom (area at 16 s)) (leValue (area (at + 17) 8 s)) (leValue (area (at + 25) 2 s))
+      → nextFrom (getD cs k []) after (allPendingIn left cs (drop at s))
+      ≡ entryGiven (getD cs k []) (Given (idFrom (area at 16 s)) (leValue (area (at + 17) 8 s)) (leValue (area (at + 25) 2 s)))
   next-found e =
       let i = id-of cs at s in
+      let x : getD (drop at s) 16 0 ≡ k = eqb-true (getD (drop at s) 16 0) k (both-true (eqb (getD (drop at s) 16 0) k) (below after (entryId (drop at s))) e .0) in
+      let c : pendingIn cs (drop at s) .consumer ≡ getD cs k [] = consumer-of cs at s ∙ ap (λ (j : ℕ). getD cs j []) (sym (getD-drop at s 16 0) ∙ x) in
       let t = time-of cs at s in
       let n = count-of cs at s in
-      next-tested true e ∙ (λ j. Given (i j) (t j) (n j))
+      next-tested true e ∙ (λ j. some (record { id = i j; consumer = c j; time = t j; count = n j }))
 
-pub next-done : (c : List ℕ) (after : Id) (cs : List (List ℕ)) (left at : ℕ) (s : List ℕ) → left ≤ 0 → nextFrom c after (allPendingIn left cs (drop at s)) ≡ Nothing
+pub next-done : (c : List ℕ) (after : Id) (cs : List (List ℕ)) (left at : ℕ) (s : List ℕ) → left ≤ 0 → nextFrom c after (allPendingIn left cs (drop at s)) ≡ none
 unfolding pendingOf firstAbove
 next-done c after cs left at s h = ap (nextFrom c after) (pending-done left cs (drop at s) h)
 
 pub next-start : (s : List ℕ) (n : ℕ) (c : List ℕ) (after : Id) → n ≡ length (groupIn s .pending)
-    → nextFrom c after (allPendingIn n (groupIn s .consumers) (drop 308 s)) ≡ nextAs (nextPending c after (groupIn s))
+    → nextFrom c after (allPendingIn n (groupIn s .consumers) (drop 308 s)) ≡ nextPending c after (groupIn s)
 unfolding nextPending
 next-start s n c after e = ap (nextFrom c after) (pending-from s n e)
 
 -- an unknown consumer has none
-pub next-unknown : (c : List ℕ) (after : Id) (g : Group) → Rules g → isAmong c (g .consumers) ≡ false → nextAs (nextPending c after g) ≡ Nothing
+pub next-unknown : (c : List ℕ) (after : Id) (g : Group) → Rules g → isAmong c (g .consumers) ≡ false → nextPending c after g ≡ none
 unfolding nextPending firstAbove
-next-unknown c after g r e = ap (λ (l : List Pending). nextAs (firstAbove after l)) (none-of c (g .consumers) (g .pending) e (r .entries))
+next-unknown c after g r e = ap (firstAbove after) (none-of c (g .consumers) (g .pending) e (r .entries))

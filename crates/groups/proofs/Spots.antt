@@ -11,9 +11,9 @@ use Rattle.octets.specs.Pick.{pick}
 use Rattle.octets.specs.Compare.{same, isLess, comesBefore}
 use Rattle.octets.proofs.Laws.{both-true, same-refl, same-true, both-of, never}
 use Rattle.groups.specs.declared.Spot.the-variants.{Known, New}
-use Rattle.groups.specs.declared.Place.the-variants.{At, Absent}
+use Rattle.groups.specs.declared.NamePlace.the-variants.{At, Absent}
 use Rattle.groups.specs.Group.{Pending, namesAbove, isAmong, isPending, arePending}
-use Rattle.groups.specs.Bytes.{placeOf}
+use Rattle.groups.specs.Bytes.{placeOfName}
 use Rattle.groups.specs.Step.{withName, pendingOf}
 use Rattle.groups.specs.Answer.{spotFrom, placeIn}
 use Rattle.groups.proofs.Names.{after-differs, above-getD, place-getD, placed}
@@ -22,11 +22,11 @@ use Rattle.groups.proofs.Consumers.{by-name, greater-before, equal-same
 
 -- a name that is there
 pub record KnownSpot (j : ℕ) (n : List ℕ) (ns : List (List ℕ)) (k : ℕ) : Type 0 where
-  pub place : k ≡ j + placeOf n ns
+  pub place : k ≡ j + placeOfName n ns
   pub among : isAmong n ns ≡ true
 
 pub known-spot : (j : ℕ) (n : List ℕ) (ns : List (List ℕ)) (k : ℕ) → spotFrom j n ns ≡ Known k → KnownSpot j n ns k
-unfolding spotFrom placeOf
+unfolding spotFrom placeOfName
 known-spot j n [] k e = absurd (let z : _≡_ {A = ℕ} 0 1 = cc in omega arith)
 known-spot j n (m ∷ ms) k e =
     by-name n m
@@ -88,7 +88,7 @@ pub place-known : (n : List ℕ) (ns : List (List ℕ)) (k : ℕ) → spotFrom 0
 unfolding placeIn
 place-known n ns k e =
     let x = known-spot 0 n ns k e in
-    let q : placeOf n ns ≡ k = omega (arith, x .place) in
+    let q : placeOfName n ns ≡ k = omega (arith, x .place) in
     rw (x .among, q)
 
 pub place-new : (a : List ℕ) (n : List ℕ) (ns : List (List ℕ)) (k : ℕ) → namesAbove a ns ≡ true → spotFrom 0 n ns ≡ New k → placeIn n ns ≡ Absent
@@ -97,12 +97,12 @@ place-new a n ns k r e = rw (new-spot a 0 n ns k r e .unknown)
 
 -- one name, one place: two places hold the same name only where they are one
 module _ (cs : List (List ℕ)) (rising : namesAbove [] cs ≡ true) where
-  place-case : (x : ℕ) (t : Bool) → ltb x (length cs) ≡ t → isAmong (getD cs x []) cs ≡ true → placeOf (getD cs x []) cs ≡ x
+  place-case : (x : ℕ) (t : Bool) → ltb x (length cs) ≡ t → isAmong (getD cs x []) cs ≡ true → placeOfName (getD cs x []) cs ≡ x
   place-case x true e h = place-getD [] cs x rising (ltb-true x (length cs) e)
   place-case x false e h =
       absurd (never h (ap (λ (n : List ℕ). isAmong n cs) (List·getD-eq-default cs [] (ltb-false x (length cs) e)) ∙ not-among [] cs rising))
 
-  pub place-among : (x : ℕ) → isAmong (getD cs x []) cs ≡ true → placeOf (getD cs x []) cs ≡ x
+  pub place-among : (x : ℕ) → isAmong (getD cs x []) cs ≡ true → placeOfName (getD cs x []) cs ≡ x
   place-among x h = place-case x (ltb x (length cs)) refl h
 
   other-case : (k x : ℕ) → k < length cs → (x ≡ k → ⊥) → (t u : Bool) → ltb x (length cs) ≡ t → same (getD cs k []) (getD cs x []) ≡ u → u ≡ false
@@ -110,7 +110,7 @@ module _ (cs : List (List ℕ)) (rising : namesAbove [] cs ≡ true) where
   other-case k x h d true true e f =
       absurd (d
       (sym (place-getD [] cs x rising (ltb-true x (length cs) e))
-      ∙ ap (λ (n : List ℕ). placeOf n cs) (sym (same-true (getD cs k []) (getD cs x []) f))
+      ∙ ap (λ (n : List ℕ). placeOfName n cs) (sym (same-true (getD cs k []) (getD cs x []) f))
       ∙ place-getD [] cs k rising h))
   other-case k x h d false true e f =
       let z : getD cs x [] ≡ [] = List·getD-eq-default cs [] (ltb-false x (length cs) e) in
@@ -139,14 +139,14 @@ none-of c cs (p ∷ ps) e h =
 -- what find consumer says
 pub record FoundName (n : List ℕ) (ns : List (List ℕ)) (k : ℕ) : Type 0 where
   pub among : isAmong n ns ≡ true
-  pub place : k ≡ placeOf n ns
+  pub place : k ≡ placeOfName n ns
   pub within : k < length ns
   pub stands : getD ns k [] ≡ n
 
-found-case : (n : List ℕ) (ns : List (List ℕ)) (k : ℕ) (t : Bool) → isAmong n ns ≡ t → pick t (At (placeOf n ns)) Absent ≡ At k → FoundName n ns k
+found-case : (n : List ℕ) (ns : List (List ℕ)) (k : ℕ) (t : Bool) → isAmong n ns ≡ t → pick t (At (placeOfName n ns)) Absent ≡ At k → FoundName n ns k
 found-case n ns k false e f = absurd (let z : _≡_ {A = ℕ} 0 1 = cc in omega arith)
 found-case n ns k true e f =
-    let q : placeOf n ns ≡ k = cc in
+    let q : placeOfName n ns ≡ k = cc in
     let p = placed n ns e in
     record { among = e; place = sym q; within = omega (arith, p .within); stands = ap (λ (i : ℕ). getD ns i []) (sym q) ∙ p .stands }
 
@@ -154,7 +154,7 @@ pub found-name : (n : List ℕ) (ns : List (List ℕ)) (k : ℕ) → placeIn n n
 unfolding placeIn
 found-name n ns k e = found-case n ns k (isAmong n ns) refl e
 
-absent-case : (n : List ℕ) (ns : List (List ℕ)) (t : Bool) → pick t (At (placeOf n ns)) Absent ≡ Absent → t ≡ false
+absent-case : (n : List ℕ) (ns : List (List ℕ)) (t : Bool) → pick t (At (placeOfName n ns)) Absent ≡ Absent → t ≡ false
 absent-case n ns true f = absurd (let z : _≡_ {A = ℕ} 0 1 = cc in omega arith)
 absent-case n ns false f = refl
 

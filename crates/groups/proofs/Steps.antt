@@ -1,24 +1,22 @@
--- What each step does to a group's name and to the number of its entries, where it changes nothing, and that the groups keep their rules.
+-- What each step does to a group's name, where it changes nothing, and that the groups keep their rules.
 -- Assumes nothing.
 use mathlib.Core.Path.{_≡_, refl, ap, _∙_}
 use mathlib.Core.Bool.{Bool, true, false}
 use mathlib.Core.List.{List, [], _∷_}
 use mathlib.Core.Option.{some, none}
-use Prim.Native.Nat.{ℕ, suc, _+_, _^_, _<_, min}
-use native.Mathlib.Omega.{arith}
-use lib.ListN.{length, take, drop, length-append}
+use Prim.Native.Nat.{ℕ, _^_, _<_}
+use lib.ListN.{length}
 use Rattle.octets.specs.Pick.{pick}
 use Rattle.octets.specs.Compare.{same}
 use Rattle.octets.proofs.Laws.{both-true, never, same-true}
 use Rattle.id.specs.declared.Id.{Id}
-use Rattle.id.specs.Id.{Fits64, least, below, atMost}
+use Rattle.id.specs.Id.{Fits64, below, atMost}
 use Rattle.groups.specs.Group.{Pending, Group, isName, isAmong, isPending, arePending, pendingUpTo, isGroup}
-use Rattle.groups.specs.Step.{findPending, withoutPending, pendingOf, pendingOfOthers, deliver, acknowledge, claim, dropConsumer, findGroup, putGroup, withoutGroup, newGroup}
-use Rattle.groups.specs.Answer.{placeOfId, lacksConsumer}
+use Rattle.groups.specs.Step.{findPending, pendingOf, pendingOfOthers, deliver, acknowledge, claim, dropConsumer, findGroup, putGroup, withoutGroup, newGroup, lacksConsumer}
 use Rattle.groups.specs.Area.{namesOf, isGroups}
 use Rattle.groups.proofs.Entries.{entry}
 use Rattle.groups.proofs.Rules.{rules}
-use Rattle.groups.proofs.Pendings.{put-last, stands, without-absent, length-put-found, count-others}
+use Rattle.groups.proofs.Pendings.{without-absent}
 use Rattle.groups.proofs.Consumers.{without-unknown}
 use Rattle.groups.proofs.Spots.{none-of}
 use Rattle.groups.proofs.Kept.{deliver-kept, claim-kept, acknowledge-kept, drop-kept, deliver-up-to, claim-up-to, acknowledge-up-to, drop-up-to}
@@ -42,35 +40,6 @@ claim-name c now p g = refl
 pub drop-name : (c : List ℕ) (g : Group) → dropConsumer c g .name ≡ g .name
 unfolding dropConsumer
 drop-name c g = refl
-
--- the number of entries
-pub deliver-length : (c : List ℕ) (now : ℕ) (i : Id) (g : Group) → isGroup g ≡ true → below (g .delivered) i ≡ true
-    → length (deliver c now i g .pending) ≡ length (g .pending) + 1
-unfolding deliver
-deliver-length c now i g e b =
-    let q : Pending = record { id = i; consumer = c; time = now; count = 1 } in
-    ap length (put-last q (g .delivered) b (g .pending) (rules g e .up-to)) ∙ length-append (g .pending) (q ∷ [])
-
-pub acknowledge-length : (i : Id) (g : Group) (p : Pending) → findPending i (g .pending) ≡ some p → length (acknowledge i g .pending) + 1 ≡ length (g .pending)
-unfolding acknowledge
-acknowledge-length i g p f =
-    let s = stands i (g .pending) p f in
-    let xs : List Pending = take (placeOfId i (g .pending)) (g .pending) in
-    let ys : List Pending = drop (suc (placeOfId i (g .pending))) (g .pending) in
-    let a : length (withoutPending i (g .pending)) ≡ length xs + length ys = ap length (s .without) ∙ length-append xs ys in
-    let b : length (g .pending) ≡ length xs + suc (length ys) = ap length (s .split) ∙ length-append xs (p ∷ ys) in
-    omega arith
-
-pub claim-length : (c : List ℕ) (now : ℕ) (i : Id) (p : Pending) (g : Group) → isGroup g ≡ true → findPending i (g .pending) ≡ some p
-    → length (claim c now p g .pending) ≡ length (g .pending)
-unfolding claim
-claim-length c now i p g e f =
-    let q : Pending = record { id = p .id; consumer = c; time = now; count = min (p .count + 1) 65535 } in
-    length-put-found i q (stands i (g .pending) p f .same-id) least (g .pending) p (rules g e .above) f
-
-pub drop-length : (c : List ℕ) (g : Group) → length (pendingOf c (g .pending)) + length (dropConsumer c g .pending) ≡ length (g .pending)
-unfolding dropConsumer
-drop-length c g = count-others c (g .pending)
 
 -- nothing changes
 pub acknowledge-missing : (i : Id) (g : Group) → findPending i (g .pending) ≡ none → acknowledge i g ≡ g

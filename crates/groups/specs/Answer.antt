@@ -1,39 +1,27 @@
 -- What the functions answer, in terms of the group that a region holds. Assumes nothing.
 use mathlib.Core.Path.{_≡_}
-use mathlib.Core.Bool.{Bool, true, false}
+use mathlib.Core.Bool.{true}
 use mathlib.Core.List.{List, [], _∷_}
 use mathlib.Core.Option.{Option, some, none}
 use Prim.Native.Nat.{ℕ, _+_}
-use lib.Dec.{leb, eqb}
-use lib.ListN.{length}
-use Rattle.octets.specs.Pick.{pick, both}
-use Rattle.octets.specs.Compare.{allZero, orderOf}
+use Rattle.octets.specs.Pick.{pick}
+use Rattle.octets.specs.Compare.{orderOf}
 use Rattle.octets.specs.declared.Order.{Order}
 use Rattle.octets.specs.declared.Order.the-variants.{Less, Equal, Greater}
 use Rattle.id.specs.declared.Id.{Id}
-use Rattle.groups.specs.declared.Judged.{Judged}
-use Rattle.groups.specs.declared.Judged.the-variants.{Free, Sound, Bad}
 use Rattle.groups.specs.declared.Spot.{Spot}
 use Rattle.groups.specs.declared.Spot.the-variants.{Known, New}
-use Rattle.groups.specs.declared.Place.{Place}
-use Rattle.groups.specs.declared.Place.the-variants.{At, Absent}
-use Rattle.groups.specs.declared.Held.{Held}
-use Rattle.groups.specs.declared.Held.the-variants.{Entry, Missing}
-use Rattle.groups.specs.declared.Next.{Next}
-use Rattle.groups.specs.declared.Next.the-variants.{Given, Nothing}
-use Rattle.groups.specs.Group.{Pending, Group, mostConsumers, isAmong, pendingUpTo, isGroup}
-use Rattle.groups.specs.Bytes.{placeOf, regionSize, regionBytes}
-use Rattle.groups.specs.Parse.{groupIn, parseRegion}
+use Rattle.groups.specs.declared.NamePlace.{NamePlace}
+use Rattle.groups.specs.declared.NamePlace.the-variants.{At, Absent}
+use Rattle.groups.specs.declared.PendingEntry.{PendingEntry}
+use Rattle.groups.specs.declared.PendingEntry.the-variants.{Entry, Missing}
+use Rattle.groups.specs.declared.NextEntry.{NextEntry}
+use Rattle.groups.specs.declared.NextEntry.the-variants.{Given, Nothing}
+use Rattle.groups.specs.Group.{Pending, Group, isAmong, isGroup}
+use Rattle.groups.specs.Bytes.{placeOfName, regionBytes}
+use Rattle.groups.specs.Parse.{groupIn}
 use Rattle.groups.specs.Step.{withName, findPending}
 use Rattle.id.specs.Id.{sameId}
-
--- judge: free is all zero; a sound group has no pending ID above the last ID
-abbrev pub judgeGroup : Id → Option Group → Judged
-judgeGroup last none = Bad
-judgeGroup last (some g) = pick (pendingUpTo last (g .pending)) Sound Bad
-
-unfoldable pub judgeOf : Id → List ℕ → Judged
-judgeOf last s = pick (both (eqb (length s) regionSize) (allZero s)) Free (judgeGroup last (parseRegion s))
 
 -- a sound region has the bytes of the group that is read of it, and that keeps the rules
 pub record SoundRegion (s : List ℕ) : Type 0 where
@@ -51,30 +39,25 @@ spotFrom k n [] = New k
 spotFrom k n (m ∷ ms) = spotBy (orderOf n m) k (spotFrom (k + 1) n ms)
 
 -- find consumer
-unfoldable pub placeIn : List ℕ → List (List ℕ) → Place
-placeIn n ns = pick (isAmong n ns) (At (placeOf n ns)) Absent
+unfoldable pub placeIn : List ℕ → List (List ℕ) → NamePlace
+placeIn n ns = pick (isAmong n ns) (At (placeOfName n ns)) Absent
 
 -- find pending: the entry's place, its consumer's place, its time and count
 unfoldable pub placeOfId : Id → List Pending → ℕ
 placeOfId i [] = 0
 placeOfId i (p ∷ ps) = pick (sameId (p .id) i) 0 (1 + placeOfId i ps)
 
-abbrev pub heldAs : List (List ℕ) → ℕ → Option Pending → Held
+abbrev pub heldAs : List (List ℕ) → ℕ → Option Pending → PendingEntry
 heldAs consumers k none = Missing
-heldAs consumers k (some p) = Entry k (placeOf (p .consumer) consumers) (p .time) (p .count)
+heldAs consumers k (some p) = Entry k (placeOfName (p .consumer) consumers) (p .time) (p .count)
 
-unfoldable pub heldIn : Id → Group → Held
+unfoldable pub heldIn : Id → Group → PendingEntry
 heldIn i g = heldAs (g .consumers) (placeOfId i (g .pending)) (findPending i (g .pending))
 
--- next pending
-abbrev pub nextAs : Option Pending → Next
-nextAs none = Nothing
-nextAs (some p) = Given (p .id) (p .time) (p .count)
-
--- 12, a consumer would be made and 16 exist
-unfoldable pub lacksConsumer : List ℕ → Group → Bool
-lacksConsumer consumer g =
-    both (pick (isAmong consumer (g .consumers)) false true) (leb mostConsumers (length (g .consumers)))
+-- next pending: the consumer's entry that an answer gives, or none
+abbrev pub entryGiven : List ℕ → NextEntry → Option Pending
+entryGiven consumer (Given i time count) = some (record { id = i; consumer = consumer; time = time; count = count })
+entryGiven consumer Nothing = none
 
 -- a consumer is made if new
 unfoldable pub withConsumer : List ℕ → Group → Group

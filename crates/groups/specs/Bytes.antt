@@ -16,9 +16,9 @@ use Rattle.id.specs.Bytes.{idBytes}
 use Rattle.groups.specs.Group.{Pending, Group, longestName, mostConsumers, mostPending}
 
 -- the place of a name among names
-unfoldable pub placeOf : List ℕ → List (List ℕ) → ℕ
-placeOf n [] = 0
-placeOf n (m ∷ ms) = pick (same n m) 0 (1 + placeOf n ms)
+unfoldable pub placeOfName : List ℕ → List (List ℕ) → ℕ
+placeOfName n [] = 0
+placeOfName n (m ∷ ms) = pick (same n m) 0 (1 + placeOfName n ms)
 
 abbrev pub entryBytes : ℕ
 entryBytes = 27
@@ -35,7 +35,7 @@ countAt = 25
 
 unfoldable pub pendingBytes : List (List ℕ) → Pending → List ℕ
 pendingBytes consumers p =
-    idBytes (p .id) ++ (placeOf (p .consumer) consumers ∷ (le 8 (p .time) ++ le 2 (p .count)))
+    idBytes (p .id) ++ (placeOfName (p .consumer) consumers ∷ (le 8 (p .time) ++ le 2 (p .count)))
 
 unfoldable pub allPending : List (List ℕ) → List Pending → List ℕ
 allPending consumers [] = []

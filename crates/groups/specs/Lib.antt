@@ -1,9 +1,8 @@
--- To be believed, in this order: a group and its rules, what happens to it, its bytes and those of all groups, the numbers of answers.
+-- To be believed, in this order: a group and its rules, what happens to it, its bytes and those of all groups.
 pub mod Group
 pub mod Step
 pub mod Bytes
 pub mod Area
-pub mod Number
 -- What is read of bytes, test by test, and what each function answers. That the tests accept exactly the bytes above is proved
 -- (proofs/Laws: region-parse, region-bytes, body-parse, body-bytes).
 pub mod Parse

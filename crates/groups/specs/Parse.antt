@@ -71,37 +71,37 @@ abbrev pub restZero : ℕ → ℕ → ℕ → List ℕ → Bool
 restZero at used room s = allZero (area (at + used) (room - used) s)
 
 -- the parts of a region: the numbers of consumers and of entries, the consumers, the last delivered ID, the group
-abbrev pub consumersIn : List ℕ → ℕ
-consumersIn s = getD s consumersAt 0
+abbrev pub consumerCountIn : List ℕ → ℕ
+consumerCountIn s = getD s consumersAt 0
 
-abbrev pub entriesIn : List ℕ → ℕ
-entriesIn s = leValue (area pendingAt 2 s)
+abbrev pub pendingCountIn : List ℕ → ℕ
+pendingCountIn s = leValue (area pendingAt 2 s)
 
 unfoldable pub deliveredIn : List ℕ → Id
 deliveredIn s = idFrom (area deliveredAt 16 s)
 
 unfoldable pub groupIn : List ℕ → Group
 groupIn s =
-    let consumers : List (List ℕ) = namesIn (consumersIn s) (drop fieldsAt s) in
+    let consumers : List (List ℕ) = namesIn (consumerCountIn s) (drop fieldsAt s) in
     record {
       name = nameIn s;
       delivered = deliveredIn s;
       consumers = consumers;
-      pending = allPendingIn (entriesIn s) consumers (drop entriesAt s);
+      pending = allPendingIn (pendingCountIn s) consumers (drop entriesAt s);
     }
 
 -- the tests of the consumers and of the entries
 unfoldable pub namesPass : List ℕ → Bool
 namesPass s =
-    both (leb (consumersIn s) mostConsumers)
-    (both (areFields [] (consumersIn s) (drop fieldsAt s))
-    (restZero fieldsAt (consumersIn s * fieldBytes) consumersBytes s))
+    both (leb (consumerCountIn s) mostConsumers)
+    (both (areFields [] (consumerCountIn s) (drop fieldsAt s))
+    (restZero fieldsAt (consumerCountIn s * fieldBytes) consumersBytes s))
 
 unfoldable pub entriesPass : List ℕ → Bool
 entriesPass s =
-    both (leb (entriesIn s) mostPending)
-    (both (areEntries (consumersIn s) least (deliveredIn s) (entriesIn s) (drop entriesAt s))
-    (restZero entriesAt (entriesIn s * entryBytes) pendingRoom s))
+    both (leb (pendingCountIn s) mostPending)
+    (both (areEntries (consumerCountIn s) least (deliveredIn s) (pendingCountIn s) (drop entriesAt s))
+    (restZero entriesAt (pendingCountIn s * entryBytes) pendingRoom s))
 
 unfoldable pub isRegion : List ℕ → Bool
 isRegion s = both (eqb (length s) regionSize) (both (isField s) (both (namesPass s) (entriesPass s)))

@@ -1,12 +1,15 @@
 -- What happens to a group, and to the groups (01, Commands). Assumes nothing.
+use mathlib.Core.Bool.{Bool, not}
 use mathlib.Core.List.{List, [], _∷_}
 use mathlib.Core.Option.{Option, some, none}
 use Prim.Native.Nat.{ℕ, _+_, _-_, min}
-use Rattle.octets.specs.Pick.{pick}
+use lib.Dec.{leb}
+use lib.ListN.{length}
+use Rattle.octets.specs.Pick.{pick, both}
 use Rattle.octets.specs.Compare.{same, comesBefore}
 use Rattle.id.specs.declared.Id.{Id}
 use Rattle.id.specs.Id.{below, sameId}
-use Rattle.groups.specs.Group.{Pending, Group, mostCount}
+use Rattle.groups.specs.Group.{Pending, Group, mostConsumers, mostCount, isAmong}
 
 -- a new consumer goes to its place
 unfoldable pub withName : List ℕ → List (List ℕ) → List (List ℕ)
@@ -45,6 +48,11 @@ pendingOfOthers n (p ∷ ps) = pick (same n (p .consumer)) (pendingOfOthers n ps
 unfoldable pub firstAbove : Id → List Pending → Option Pending
 firstAbove i [] = none
 firstAbove i (p ∷ ps) = pick (below i (p .id)) (some p) (firstAbove i ps)
+
+-- 12, a consumer would be made and 16 exist
+unfoldable pub lacksConsumer : List ℕ → Group → Bool
+lacksConsumer consumer g =
+    both (not (isAmong consumer (g .consumers))) (leb mostConsumers (length (g .consumers)))
 
 -- group read: the ID becomes last delivered and pending for that consumer, with time now and count 1; the consumer is made if new
 unfoldable pub deliver : List ℕ → ℕ → Id → Group → Group

@@ -1,4 +1,4 @@
-// Is a region free, a sound group or bad? Each test answers what specs/Parse says of the bytes from its place on.
+// Is a region that of a group? Each test answers what specs/Parse says of the bytes from its place on.
 
 ghost use mathlib.Core.Path.{_≡_};
 ghost use Prim.Native.Nat.{_+_, _*_, _≤_};
@@ -9,7 +9,6 @@ ghost use Rattle.id.specs.Id.{least, atMost};
 ghost use Rattle.groups.specs.Group.{pendingUpTo};
 ghost use Rattle.groups.specs.Bytes.{fieldBytes, entryBytes, regionSize};
 ghost use Rattle.groups.specs.Parse.{isField, areFields, isEntry, areEntries, groupIn, namesPass, entriesPass, isRegion};
-ghost use Rattle.groups.specs.Answer.{judgeOf};
 use crate::CONSUMERS_AT;
 use crate::COUNT_AT;
 use crate::DELIVERED_AT;
@@ -17,7 +16,6 @@ use crate::ENTRIES_AT;
 use crate::ENTRY_BYTES;
 use crate::FIELD_BYTES;
 use crate::FIELDS_AT;
-use crate::Judged;
 use crate::LONGEST_NAME;
 use crate::MOST_CONSUMERS;
 use crate::MOST_PENDING;
@@ -155,23 +153,4 @@ pub fn is_region(s: &[u8], last: Id) -> bool
         return false;
     }
     entries_pass(s, last)
-}
-
-// A region that begins with 0 has no name: it is free or bad.
-pub fn judge(s: &[u8], last: Id) -> Judged
-    ensures { λ r. ⌜ r ≡ judgeOf last (now (s .entry)) ⌝ }
-{
-    if s.len() != REGION_BYTES {
-        return Judged::Bad;
-    }
-    if s[0] == 0 {
-        if octets::all_zero_from(s, 0) {
-            return Judged::Free;
-        }
-        return Judged::Bad;
-    }
-    if !is_region(s, last) {
-        return Judged::Bad;
-    }
-    Judged::Sound
 }

@@ -38,22 +38,13 @@ mod reading;
 
 pub use judging::entries_rise;
 pub use judging::is_region;
-pub use judging::judge;
 pub use reading::consumer_count;
 pub use reading::delivered;
 pub use reading::find_consumer;
 pub use reading::find_pending;
-pub use reading::has_name;
 pub use reading::next_pending;
 pub use reading::pending_count;
 pub use reading::spot_of;
-
-// What a region holds.
-pub enum Judged {
-    Free,
-    Sound,
-    Bad,
-}
 
 // A name's place among the consumers, or the place that it would get.
 pub enum Spot {
@@ -61,20 +52,20 @@ pub enum Spot {
     New(usize),
 }
 
-// A consumer's place.
-pub enum Place {
+// The place of a name among names, consumers or groups.
+pub enum NamePlace {
     At(usize),
     Absent,
 }
 
 // A pending entry: its place, its consumer's place, its time and count.
-pub enum Held {
+pub enum PendingEntry {
     Entry(usize, usize, u64, u64),
     Missing,
 }
 
 // A consumer's next entry: its ID, time and count.
-pub enum Next {
+pub enum NextEntry {
     Given(Id, u64, u64),
     Nothing,
 }

@@ -6,13 +6,12 @@ ghost use Prim.Native.Nat.{_+_, _≤_, _<_};
 ghost use lib.ListN.{length, drop, getD};
 ghost use lib.Dec.{eqb};
 ghost use Rattle.octets.specs.Pick.{both};
-ghost use Rattle.octets.specs.Compare.{same};
 ghost use Rattle.id.specs.Id.{below};
 ghost use Rattle.groups.specs.Group.{mostConsumers, mostPending};
 ghost use Rattle.groups.specs.Bytes.{entryBytes, placeAt};
 ghost use Rattle.groups.specs.Parse.{entryId, groupIn};
 ghost use Rattle.groups.specs.Step.{nextPending};
-ghost use Rattle.groups.specs.Answer.{SoundRegion, spotFrom, placeIn, heldIn, nextAs};
+ghost use Rattle.groups.specs.Answer.{SoundRegion, spotFrom, placeIn, heldIn, entryGiven};
 use crate::CONSUMERS_AT;
 use crate::COUNT_AT;
 use crate::DELIVERED_AT;
@@ -20,11 +19,11 @@ use crate::ENTRIES_AT;
 use crate::ENTRY_BYTES;
 use crate::FIELD_BYTES;
 use crate::FIELDS_AT;
-use crate::Held;
-use crate::Next;
+use crate::NamePlace;
+use crate::NextEntry;
 use crate::PENDING_AT;
 use crate::PLACE_AT;
-use crate::Place;
+use crate::PendingEntry;
 use crate::Spot;
 use crate::TIME_AT;
 use id::Id;
@@ -51,14 +50,6 @@ pub fn pending_count(region: &[u8]) -> usize
     octets::read_le(region, PENDING_AT, 2) as usize
 }
 
-pub fn has_name(region: &[u8], name: &[u8]) -> bool
-    requires { ⌜ SoundRegion (now region) ⌝ }
-    ensures { λ r. ⌜ r ≡ same (groupIn (now (region .entry)) .name) (now (name .entry)) ⌝ }
-{
-    let n = octets::wide(region[0]) as usize;
-    octets::equal(&region[1..1 + n], name)
-}
-
 // The names rise, so the search ends at the first that is not below.
 pub fn spot_of(region: &[u8], name: &[u8]) -> Spot
     requires { ⌜ SoundRegion (now region) ⌝ }
@@ -81,17 +72,17 @@ pub fn spot_of(region: &[u8], name: &[u8]) -> Spot
     Spot::New(k)
 }
 
-pub fn find_consumer(region: &[u8], name: &[u8]) -> Place
+pub fn find_consumer(region: &[u8], name: &[u8]) -> NamePlace
     requires { ⌜ SoundRegion (now region) ⌝ }
     ensures { λ r. ⌜ r ≡ placeIn (now (name .entry)) (groupIn (now (region .entry)) .consumers) ⌝ }
 {
     match spot_of(region, name) {
-        Spot::Known(k) => Place::At(k),
-        Spot::New(_) => Place::Absent,
+        Spot::Known(k) => NamePlace::At(k),
+        Spot::New(_) => NamePlace::Absent,
     }
 }
 
-pub fn find_pending(region: &[u8], id: Id) -> Held
+pub fn find_pending(region: &[u8], id: Id) -> PendingEntry
     requires { ⌜ SoundRegion (now region) ⌝ }
     ensures { λ r. ⌜ r ≡ heldIn id (groupIn (now (region .entry))) ⌝ }
 {
@@ -102,13 +93,18 @@ pub fn find_pending(region: &[u8], id: Id) -> Held
         if id::read_id(region, at).is_same(id) {
             let consumer = octets::wide(region[at + PLACE_AT]) as usize;
             let time = octets::read_le(region, at + TIME_AT, 8);
-            return Held::Entry(k, consumer, time, octets::read_le(region, at + COUNT_AT, 2));
+            return PendingEntry::Entry(
+                k,
+                consumer,
+                time,
+                octets::read_le(region, at + COUNT_AT, 2),
+            );
         }
         at += ENTRY_BYTES;
         k += 1;
         left -= 1;
     }
-    Held::Missing
+    PendingEntry::Missing
 }
 
 // Is the entry that consumer's, and above the ID?
@@ -124,9 +120,9 @@ fn is_next(region: &[u8], at: usize, consumer: usize, after: Id) -> bool
 }
 
 // The next entry of the consumer at a place.
-fn next_of(region: &[u8], consumer: usize, after: Id) -> Next
+fn next_of(region: &[u8], consumer: usize, after: Id) -> NextEntry
     requires { ⌜ SoundRegion (now region) × (consumer < length (groupIn (now region) .consumers)) ⌝ }
-    ensures { λ r. ⌜ r ≡ nextAs (nextPending (getD (groupIn (now (region .entry)) .consumers) consumer []) after (groupIn (now (region .entry)))) ⌝ }
+    ensures { λ r. ⌜ entryGiven (getD (groupIn (now (region .entry)) .consumers) consumer []) r ≡ nextPending (getD (groupIn (now (region .entry)) .consumers) consumer []) after (groupIn (now (region .entry))) ⌝ }
 {
     let mut left = pending_count(region);
     let mut at = ENTRIES_AT;
@@ -134,20 +130,20 @@ fn next_of(region: &[u8], consumer: usize, after: Id) -> Next
         if is_next(region, at, consumer, after) {
             let id = id::read_id(region, at);
             let time = octets::read_le(region, at + TIME_AT, 8);
-            return Next::Given(id, time, octets::read_le(region, at + COUNT_AT, 2));
+            return NextEntry::Given(id, time, octets::read_le(region, at + COUNT_AT, 2));
         }
         at += ENTRY_BYTES;
         left -= 1;
     }
-    Next::Nothing
+    NextEntry::Nothing
 }
 
-pub fn next_pending(region: &[u8], consumer: &[u8], after: Id) -> Next
+pub fn next_pending(region: &[u8], consumer: &[u8], after: Id) -> NextEntry
     requires { ⌜ SoundRegion (now region) ⌝ }
-    ensures { λ r. ⌜ r ≡ nextAs (nextPending (now (consumer .entry)) after (groupIn (now (region .entry)))) ⌝ }
+    ensures { λ r. ⌜ entryGiven (now (consumer .entry)) r ≡ nextPending (now (consumer .entry)) after (groupIn (now (region .entry))) ⌝ }
 {
     match find_consumer(region, consumer) {
-        Place::At(k) => next_of(region, k, after),
-        Place::Absent => Next::Nothing,
+        NamePlace::At(k) => next_of(region, k, after),
+        NamePlace::Absent => NextEntry::Nothing,
     }
 }

@@ -1,6 +1,6 @@
 -- A sound region with one thing changed is the region of the changed group. Assumes nothing.
 use mathlib.Core.Path.{_≡_, refl, sym, ap, ap₂, _∙_}
-use mathlib.Core.Bool.{true, false}
+use mathlib.Core.Bool.{Bool, true, false}
 use mathlib.Core.List.{List, [], _++_}
 use mathlib.Core.Option.{Option, some, none}
 use Prim.Native.Nat.{ℕ, suc, _+_, _-_, _*_, _≤_, _<_}
@@ -11,16 +11,14 @@ use lib.Seq.{split-at, length-take-le}
 use Rattle.octets.specs.Bytes.{le}
 use Rattle.octets.specs.Place.{put, spliced}
 use Rattle.id.specs.declared.Id.{Id}
-use Rattle.groups.specs.declared.Held.the-variants.{Entry, Missing}
+use Rattle.groups.specs.declared.PendingEntry.the-variants.{Entry, Missing}
 use Rattle.groups.specs.Group.{Pending, Group, isAmong}
 use Rattle.groups.specs.Bytes.{regionBytes}
 use Rattle.groups.specs.Parse.{groupIn}
-use Rattle.groups.specs.Step.{idle, findPending, acknowledge}
-use Rattle.groups.specs.Answer.{SoundRegion, placeOfId, heldAs, heldIn, lacksConsumer}
+use Rattle.groups.specs.Step.{idle, findPending, acknowledge, lacksConsumer}
+use Rattle.groups.specs.Answer.{SoundRegion, placeOfId, heldAs, heldIn}
 use Rattle.groups.proofs.Laws.{Rules, stands}
-use Rattle.groups_change.specs.Change.{withPending, withoutAt, deliverAnswer, claimAnswer}
-use Rattle.groups_change.specs.declared.Delivery.the-variants.{Done, Refused}
-use Rattle.groups_change.specs.declared.Claimed.the-variants.{Moved, NotMoved, Refused as ClaimRefused}
+use Rattle.groups_change.specs.Change.{withPending, withoutAt, refusalToDeliver, refusalToClaim, claimMoves}
 use borrow.Author.Tests.{le-leb, lt-leb}
 use Rattle.groups_change.proofs.Moves.{nobody}
 use Rattle.groups_change.proofs.Shapes.{shape, region-shape, sound-rules, sound-short, sound-shape, shape-number, shape-remove}
@@ -103,34 +101,37 @@ lacks-unknown c g n q e = rw (e, q)
 
 -- what deliver answers
 module _ (c : List ℕ) (g : Group) where
-  pub deliver-12 : lacksConsumer c g ≡ true → deliverAnswer c g ≡ Refused 12
-  unfolding deliverAnswer
+  pub deliver-12 : lacksConsumer c g ≡ true → refusalToDeliver c g ≡ some 12
+  unfolding refusalToDeliver
   deliver-12 e = rw e
 
   module _ (n : ℕ) (q : n ≡ length (g .pending)) (e : lacksConsumer c g ≡ false) where
-    pub deliver-13 : 256 ≤ n → deliverAnswer c g ≡ Refused 13
-    unfolding deliverAnswer
+    pub deliver-13 : 256 ≤ n → refusalToDeliver c g ≡ some 13
+    unfolding refusalToDeliver
     deliver-13 h = rw (e, le-leb 256 (length (g .pending)) (omega arith))
 
-    pub deliver-done : n < 256 → deliverAnswer c g ≡ Done
-    unfolding deliverAnswer
+    pub deliver-done : n < 256 → refusalToDeliver c g ≡ none
+    unfolding refusalToDeliver
     deliver-done h = rw (e, lt-leb 256 (length (g .pending)) (omega arith))
 
 -- what claim answers
 module _ (c : List ℕ) (least-idle : ℕ) (i : Id) (now : ℕ) (g : Group) where
-  pub claim-missing : findPending i (g .pending) ≡ none → claimAnswer c least-idle i now g ≡ NotMoved
-  unfolding claimAnswer
-  claim-missing f = rw f
+  abbrev pub ClaimIs : Option ℕ → Bool → Type 0
+  ClaimIs o moves = (o ≡ refusalToClaim c least-idle i now g) × (moves ≡ claimMoves c least-idle i now g)
+
+  pub claim-missing : findPending i (g .pending) ≡ none → ClaimIs none false
+  unfolding refusalToClaim claimMoves
+  claim-missing f = (rw f, rw f)
 
   module _ (p : Pending) (f : findPending i (g .pending) ≡ some p) (x : ℕ) (q : x ≡ idle now (p .time)) where
-    pub claim-busy : x < least-idle → claimAnswer c least-idle i now g ≡ NotMoved
-    unfolding claimAnswer
-    claim-busy h = rw (f, lt-leb least-idle (idle now (p .time)) (omega arith))
+    pub claim-busy : x < least-idle → ClaimIs none false
+    unfolding refusalToClaim claimMoves
+    claim-busy h = let l = lt-leb least-idle (idle now (p .time)) (omega arith) in (rw (f, l), rw (f, l))
 
-    pub claim-12 : least-idle ≤ x → lacksConsumer c g ≡ true → claimAnswer c least-idle i now g ≡ ClaimRefused 12
-    unfolding claimAnswer
-    claim-12 h e = rw (f, le-leb least-idle (idle now (p .time)) (omega arith), e)
+    pub claim-12 : least-idle ≤ x → lacksConsumer c g ≡ true → ClaimIs (some 12) false
+    unfolding refusalToClaim claimMoves
+    claim-12 h e = let l = le-leb least-idle (idle now (p .time)) (omega arith) in (rw (f, l, e), rw (f, l, e))
 
-    pub claim-moved : least-idle ≤ x → lacksConsumer c g ≡ false → claimAnswer c least-idle i now g ≡ Moved
-    unfolding claimAnswer
-    claim-moved h e = rw (f, le-leb least-idle (idle now (p .time)) (omega arith), e)
+    pub claim-moved : least-idle ≤ x → lacksConsumer c g ≡ false → ClaimIs none true
+    unfolding refusalToClaim claimMoves
+    claim-moved h e = let l = le-leb least-idle (idle now (p .time)) (omega arith) in (rw (f, l, e), rw (f, l, e))

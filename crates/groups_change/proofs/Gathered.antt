@@ -14,7 +14,7 @@ use Rattle.octets.specs.Place.{area, put}
 use Rattle.octets.specs.Compare.{same}
 use Rattle.octets.proofs.Laws.{both-true, part-area, put-none, put-append, drop-put, length-put, area-add, length-area}
 use Rattle.groups.specs.Group.{Pending, Group, namesAbove, isPending, arePending}
-use Rattle.groups.specs.Bytes.{placeOf, pendingBytes, allPending, regionBytes}
+use Rattle.groups.specs.Bytes.{placeOfName, pendingBytes, allPending, regionBytes}
 use Rattle.groups.specs.Parse.{groupIn}
 use Rattle.groups.specs.Step.{pendingOf, pendingOfOthers}
 use Rattle.groups.specs.Answer.{SoundRegion}
@@ -117,7 +117,7 @@ module _ (cs : List (List ℕ)) (rising : namesAbove [] cs ≡ true) (k : ℕ) (
   entry-tested : (p : Pending) (u : List ℕ) → isPending cs p ≡ true → eqb (getD (pendingBytes cs p ++ u) 16 0) k ≡ same c (p .consumer)
   entry-tested p u e =
       ap (λ (x : ℕ). eqb x k) (entry-place cs p u)
-      ∙ sym (same-place cs rising k (placeOf (p .consumer) cs) low)
+      ∙ sym (same-place cs rising k (placeOfName (p .consumer) cs) low)
       ∙ ap (same c) (placed (p .consumer) cs (entry cs p e .among) .stands)
 
   rows-case : (p : Pending) (ps : List Pending) (t : Bool) → pick t [] (pendingBytes cs p) ++ allPending cs ps ≡ allPending cs (pick t ps (p ∷ ps))

@@ -17,10 +17,10 @@ use Rattle.id.specs.Id.{least, below}
 use Rattle.id.specs.Bytes.{idBytes}
 use Rattle.groups.specs.declared.Spot.the-variants.{New}
 use Rattle.groups.specs.Group.{Pending, Group, isName, areNames, isAmong, isPending, arePending}
-use Rattle.groups.specs.Bytes.{placeOf, pendingBytes, allPending, nameField, regionBytes}
+use Rattle.groups.specs.Bytes.{placeOfName, pendingBytes, allPending, nameField, regionBytes}
 use Rattle.groups.specs.Parse.{groupIn}
-use Rattle.groups.specs.Step.{withName, withoutName, findPending, putPending, pendingOf, deliver, claim}
-use Rattle.groups.specs.Answer.{SoundRegion, spotFrom, placeOfId, lacksConsumer, withConsumer}
+use Rattle.groups.specs.Step.{withName, withoutName, findPending, putPending, pendingOf, deliver, claim, lacksConsumer}
+use Rattle.groups.specs.Answer.{SoundRegion, spotFrom, placeOfId, withConsumer}
 use Rattle.groups.proofs.Laws.{Rules, rules-with, named, same-swap, empty-before, placed, place-getD, among-getD, above-with, with-known, without-cut, allOf, all-more, entries-all, entry, put-last, put-found, stands, new-spot}
 use Rattle.groups_change.specs.Places.{movedPlace, placesMoved}
 use Rattle.groups_change.specs.Change.{withoutConsumer, rowOf}
@@ -60,7 +60,7 @@ module _ (s : List ℕ) (h : SoundRegion s) where
   short : length (groupIn s .name) ≤ 16
   short = sound-short s h
 
-  low-place : (m : List ℕ) → isAmong m cs ≡ true → placeOf m cs < 16
+  low-place : (m : List ℕ) → isAmong m cs ≡ true → placeOfName m cs < 16
   low-place m a = omega (arith, placed m cs a .within, r .few)
 
   -- a new consumer at place k
@@ -75,7 +75,7 @@ module _ (s : List ℕ) (h : SoundRegion s) where
       let within : k ≤ length cs = omega (arith, x .within) in
       let lx : length (take k cs) ≡ k = length-take-le k cs within in
       let ly : length (drop k cs) ≡ length cs - k = length-drop k cs in
-      let up : (p : Pending) → isPending cs p ≡ true → placeOf (p .consumer) ds ≡ movedPlace k 1 0 (placeOf (p .consumer) cs) = λ p e.
+      let up : (p : Pending) → isPending cs p ≡ true → placeOfName (p .consumer) ds ≡ movedPlace k 1 0 (placeOfName (p .consumer) cs) = λ p e.
       let a = entry cs p e .among in
       place-up (p .consumer) c cs k (differs (p .consumer) c cs a (x .unknown)) within a (low-place (p .consumer) a) in
       let moved : (t : List ℕ) → placesMoved k 1 0 m (allPending cs ps ++ t) ≡ allPending ds ps ++ t = λ t.
@@ -135,7 +135,7 @@ module _ (s : List ℕ) (h : SoundRegion s) where
       without-cut c cs (among-getD cs k low) ∙ ap (λ (j : ℕ). take j cs ++ drop (suc j) cs) (place-getD [] cs k (r .rising) low) in
       let lx : length xs ≡ k = length-take-le k cs (omega arith) in
       let ly : length ys ≡ length cs - suc k = length-drop (suc k) cs in
-      let down : (p : Pending) → good k p ≡ true → placeOf (p .consumer) ds ≡ movedPlace (k + 1) 0 1 (placeOf (p .consumer) cs) = λ p e.
+      let down : (p : Pending) → good k p ≡ true → placeOfName (p .consumer) ds ≡ movedPlace (k + 1) 0 1 (placeOfName (p .consumer) cs) = λ p e.
       let q = not-this k p e in
       let a = entry cs p (q .0) .among in
       place-down (p .consumer) cs k low (q .1) a (low-place (p .consumer) a) in
@@ -159,7 +159,7 @@ module _ (s : List ℕ) (h : SoundRegion s) where
       ∙ sym (region-shape (withoutConsumer c g))
 
   -- the place of a consumer that is made if new
-  pub made-place : (c : List ℕ) (k : ℕ) → 1 ≤ length c → spotFrom 0 c cs ≡ New k → k ≡ placeOf c (withName c cs)
+  pub made-place : (c : List ℕ) (k : ℕ) → 1 ≤ length c → spotFrom 0 c cs ≡ New k → k ≡ placeOfName c (withName c cs)
   made-place c k some-bytes spot =
       let x = new-spot [] 0 c cs k (r .rising) spot in
       let z : k - 0 ≡ k = omega arith in
@@ -167,7 +167,7 @@ module _ (s : List ℕ) (h : SoundRegion s) where
       let lx : length (take k cs) ≡ k = length-take-le k cs (omega (arith, x .within)) in
       let stands-at : getD (withName c cs) k [] ≡ c = ap (λ (l : List (List ℕ)). getD l k []) made ∙ getD-at (take k cs) c (drop k cs) [] k lx in
       let within : k < length (withName c cs) = omega (arith, ap length made, length-append (take k cs) (c ∷ drop k cs)) in
-      sym (place-getD [] (withName c cs) k (above-with c [] (empty-before c some-bytes) cs (r .rising)) within) ∙ ap (λ (n : List ℕ). placeOf n (withName c cs)) stands-at
+      sym (place-getD [] (withName c cs) k (above-with c [] (empty-before c some-bytes) cs (r .rising)) within) ∙ ap (λ (n : List ℕ). placeOfName n (withName c cs)) stands-at
 
   pub known-made : (c : List ℕ) → isAmong c cs ≡ true → g ≡ withConsumer c g
   unfolding withConsumer
@@ -197,11 +197,11 @@ module _ (s : List ℕ) (h : SoundRegion s) where
     unfolding withConsumer
     made-shape = region-shape (withConsumer c g)
 
-    row-is : (q : Pending) (place : ℕ) → q .consumer ≡ c → place ≡ placeOf c ds → rowOf (q .id) place (q .time) (q .count) ≡ pendingBytes ds q
+    row-is : (q : Pending) (place : ℕ) → q .consumer ≡ c → place ≡ placeOfName c ds → rowOf (q .id) place (q .time) (q .count) ≡ pendingBytes ds q
     unfolding pendingBytes
-    row-is q place e f = ap (λ (k : ℕ). rowOf (q .id) k (q .time) (q .count)) (f ∙ ap (λ (n : List ℕ). placeOf n ds) (sym e))
+    row-is q place e f = ap (λ (k : ℕ). rowOf (q .id) k (q .time) (q .count)) (f ∙ ap (λ (n : List ℕ). placeOfName n ds) (sym e))
 
-    pub delivered-entry : (n place time : ℕ) (i : Id) → n ≡ length ps → n < 256 → place ≡ placeOf c ds → below (g .delivered) i ≡ true
+    pub delivered-entry : (n place time : ℕ) (i : Id) → n ≡ length ps → n < 256 → place ≡ placeOfName c ds → below (g .delivered) i ≡ true
         → put (put (put (regionBytes (withConsumer c g)) (308 + n * 27) (rowOf i place time 1)) 306 (le 2 (n + 1))) 17 (idBytes i) ≡ regionBytes (deliver c time i g)
     unfolding deliver
     delivered-entry n place time i en room ep b =
@@ -219,7 +219,7 @@ module _ (s : List ℕ) (h : SoundRegion s) where
         ∙ ap (λ (l : List Pending). shape (g .name) i (length ds) ds (length l) ds l) (sym put-in)
         ∙ sym (region-shape (deliver c time i g))
 
-    pub claimed-entry : (at place time count : ℕ) (i : Id) (p : Pending) → findPending i ps ≡ some p → at ≡ placeOfId i ps → place ≡ placeOf c ds → count ≡ min (p .count + 1) 65535
+    pub claimed-entry : (at place time count : ℕ) (i : Id) (p : Pending) → findPending i ps ≡ some p → at ≡ placeOfId i ps → place ≡ placeOfName c ds → count ≡ min (p .count + 1) 65535
         → put (regionBytes (withConsumer c g)) (308 + at * 27) (rowOf i place time count) ≡ regionBytes (claim c time p g)
     unfolding claim
     claimed-entry at place time count i p f ea ep ec =

@@ -16,7 +16,7 @@ use Rattle.id.specs.Id.{least}
 use Rattle.id.specs.Bytes.{idBytes}
 use Rattle.id.proofs.Laws.{length-id-bytes}
 use Rattle.groups.specs.Group.{Pending, isAmong}
-use Rattle.groups.specs.Bytes.{placeOf, pendingBytes, allPending}
+use Rattle.groups.specs.Bytes.{placeOfName, pendingBytes, allPending}
 use Rattle.groups.specs.Parse.{pendingIn, allPendingIn}
 use Rattle.groups.proofs.Laws.{allOf, all-of, length-entry}
 use Rattle.groups_change.specs.Places.{movedPlace, placesMoved}
@@ -24,50 +24,50 @@ use Rattle.groups_change.specs.Places.{movedPlace, placesMoved}
 -- places in a list with one name more
 module _ (m n : List ℕ) (differs : same m n ≡ false) where
   more-case : (h : List ℕ) (t : List (List ℕ)) (k : ℕ) (b : Bool) → same m h ≡ b → pick b true (isAmong m t) ≡ true
-      → (isAmong m t ≡ true → placeOf m (take k t ++ (n ∷ drop k t)) ≡ pick (ltb (placeOf m t) k) (placeOf m t) (placeOf m t + 1))
-      → placeOf m (h ∷ (take k t ++ (n ∷ drop k t))) ≡ pick (ltb (placeOf m (h ∷ t)) (suc k)) (placeOf m (h ∷ t)) (placeOf m (h ∷ t) + 1)
-  unfolding placeOf
+      → (isAmong m t ≡ true → placeOfName m (take k t ++ (n ∷ drop k t)) ≡ pick (ltb (placeOfName m t) k) (placeOfName m t) (placeOfName m t + 1))
+      → placeOfName m (h ∷ (take k t ++ (n ∷ drop k t))) ≡ pick (ltb (placeOfName m (h ∷ t)) (suc k)) (placeOfName m (h ∷ t)) (placeOfName m (h ∷ t) + 1)
+  unfolding placeOfName
   more-case h t k true e a r = rw (e, lt-ltb 0 (suc k) (omega arith))
   more-case h t k false e a r =
-      let x : ℕ = placeOf m t in
+      let x : ℕ = placeOfName m t in
       rw (e, r a)
       (pick-lt (λ (y : ℕ). 1 + y ≡ pick (ltb (1 + x) (suc k)) (1 + x) (1 + x + 1)) x k x (x + 1)
       (λ l. rw (lt-ltb (1 + x) (suc k) (omega arith)))
       (λ l. rw (le-ltb (1 + x) (suc k) (omega arith)) (omega arith)))
 
   place-more : (ns : List (List ℕ)) (k : ℕ) → k ≤ length ns → isAmong m ns ≡ true
-      → placeOf m (take k ns ++ (n ∷ drop k ns)) ≡ pick (ltb (placeOf m ns) k) (placeOf m ns) (placeOf m ns + 1)
+      → placeOfName m (take k ns ++ (n ∷ drop k ns)) ≡ pick (ltb (placeOfName m ns) k) (placeOfName m ns) (placeOfName m ns + 1)
   unfolding isAmong
   place-more ns zero h a = first ns
     where
-      first : (l : List (List ℕ)) → placeOf m (n ∷ l) ≡ pick (ltb (placeOf m l) 0) (placeOf m l) (placeOf m l + 1)
-      first l = unfold-first l ∙ rw (le-ltb (placeOf m l) 0 (omega arith)) (omega arith)
+      first : (l : List (List ℕ)) → placeOfName m (n ∷ l) ≡ pick (ltb (placeOfName m l) 0) (placeOfName m l) (placeOfName m l + 1)
+      first l = unfold-first l ∙ rw (le-ltb (placeOfName m l) 0 (omega arith)) (omega arith)
         where
-          unfold-first : (l : List (List ℕ)) → placeOf m (n ∷ l) ≡ 1 + placeOf m l
-          unfold-first l = unfold placeOf in ap (λ (b : Bool). pick b 0 (1 + placeOf m l)) differs
+          unfold-first : (l : List (List ℕ)) → placeOfName m (n ∷ l) ≡ 1 + placeOfName m l
+          unfold-first l = unfold placeOfName in ap (λ (b : Bool). pick b 0 (1 + placeOfName m l)) differs
   place-more [] (suc k) h a = absurd (never refl (sym a))
   place-more (x ∷ ns) (suc k) h a = more-case x ns k (same m x) refl a (place-more ns k (omega arith))
 
 -- and in one with a name less
 module _ (m : List ℕ) where
   less-case : (h : List ℕ) (t : List (List ℕ)) (k : ℕ) (b : Bool) → same m h ≡ b → pick b true (isAmong m t) ≡ true
-      → (isAmong m t ≡ true → placeOf m (take k t ++ drop (suc k) t) ≡ pick (ltb (placeOf m t) (k + 1)) (placeOf m t) (placeOf m t - 1))
-      → placeOf m (h ∷ (take k t ++ drop (suc k) t)) ≡ pick (ltb (placeOf m (h ∷ t)) (suc k + 1)) (placeOf m (h ∷ t)) (placeOf m (h ∷ t) - 1)
-  unfolding placeOf
+      → (isAmong m t ≡ true → placeOfName m (take k t ++ drop (suc k) t) ≡ pick (ltb (placeOfName m t) (k + 1)) (placeOfName m t) (placeOfName m t - 1))
+      → placeOfName m (h ∷ (take k t ++ drop (suc k) t)) ≡ pick (ltb (placeOfName m (h ∷ t)) (suc k + 1)) (placeOfName m (h ∷ t)) (placeOfName m (h ∷ t) - 1)
+  unfolding placeOfName
   less-case h t k true e a r = rw (e, lt-ltb 0 (suc k + 1) (omega arith))
   less-case h t k false e a r =
-      let x : ℕ = placeOf m t in
+      let x : ℕ = placeOfName m t in
       rw (e, r a)
       (pick-lt (λ (y : ℕ). 1 + y ≡ pick (ltb (1 + x) (suc k + 1)) (1 + x) (1 + x - 1)) x (k + 1) x (x - 1)
       (λ l. rw (lt-ltb (1 + x) (suc k + 1) (omega arith)))
       (λ l. rw (le-ltb (1 + x) (suc k + 1) (omega arith)) (omega arith)))
 
-  first-gone : (h : List ℕ) (t : List (List ℕ)) → same m h ≡ false → placeOf m t ≡ pick (ltb (placeOf m (h ∷ t)) (0 + 1)) (placeOf m (h ∷ t)) (placeOf m (h ∷ t) - 1)
-  unfolding placeOf
-  first-gone h t e = rw (e, le-ltb (1 + placeOf m t) (0 + 1) (omega arith)) (omega arith)
+  first-gone : (h : List ℕ) (t : List (List ℕ)) → same m h ≡ false → placeOfName m t ≡ pick (ltb (placeOfName m (h ∷ t)) (0 + 1)) (placeOfName m (h ∷ t)) (placeOfName m (h ∷ t) - 1)
+  unfolding placeOfName
+  first-gone h t e = rw (e, le-ltb (1 + placeOfName m t) (0 + 1) (omega arith)) (omega arith)
 
   place-less : (ns : List (List ℕ)) (k : ℕ) → k < length ns → same m (getD ns k []) ≡ false → isAmong m ns ≡ true
-      → placeOf m (take k ns ++ drop (suc k) ns) ≡ pick (ltb (placeOf m ns) (k + 1)) (placeOf m ns) (placeOf m ns - 1)
+      → placeOfName m (take k ns ++ drop (suc k) ns) ≡ pick (ltb (placeOfName m ns) (k + 1)) (placeOfName m ns) (placeOfName m ns - 1)
   unfolding isAmong
   place-less [] k h d a = absurd (omega arith)
   place-less (x ∷ ns) zero h d a = first-gone x ns d
@@ -83,34 +83,34 @@ module _ (x k : ℕ) (low : x < 16) where
   unfolding movedPlace
   down-is = ap (pick (ltb x (k + 1)) x) (let e : x - 1 ≡ (x + 0 - 1) % 256 = omega arith in e)
 
-pub place-up : (m n : List ℕ) (ns : List (List ℕ)) (k : ℕ) → same m n ≡ false → k ≤ length ns → isAmong m ns ≡ true → placeOf m ns < 16
-    → placeOf m (take k ns ++ (n ∷ drop k ns)) ≡ movedPlace k 1 0 (placeOf m ns)
-place-up m n ns k d h a l = place-more m n d ns k h a ∙ up-is (placeOf m ns) k l
+pub place-up : (m n : List ℕ) (ns : List (List ℕ)) (k : ℕ) → same m n ≡ false → k ≤ length ns → isAmong m ns ≡ true → placeOfName m ns < 16
+    → placeOfName m (take k ns ++ (n ∷ drop k ns)) ≡ movedPlace k 1 0 (placeOfName m ns)
+place-up m n ns k d h a l = place-more m n d ns k h a ∙ up-is (placeOfName m ns) k l
 
-pub place-down : (m : List ℕ) (ns : List (List ℕ)) (k : ℕ) → k < length ns → same m (getD ns k []) ≡ false → isAmong m ns ≡ true → placeOf m ns < 16
-    → placeOf m (take k ns ++ drop (suc k) ns) ≡ movedPlace (k + 1) 0 1 (placeOf m ns)
-place-down m ns k h d a l = place-less m ns k h d a ∙ down-is (placeOf m ns) k l
+pub place-down : (m : List ℕ) (ns : List (List ℕ)) (k : ℕ) → k < length ns → same m (getD ns k []) ≡ false → isAmong m ns ≡ true → placeOfName m ns < 16
+    → placeOfName m (take k ns ++ drop (suc k) ns) ≡ movedPlace (k + 1) 0 1 (placeOfName m ns)
+place-down m ns k h d a l = place-less m ns k h d a ∙ down-is (placeOfName m ns) k l
 
 -- the entries' bytes
 module _ (from add sub : ℕ) (cs ds : List (List ℕ)) (good : Pending → Bool)
-    (moved : (p : Pending) → good p ≡ true → placeOf (p .consumer) ds ≡ movedPlace from add sub (placeOf (p .consumer) cs)) where
-  row-set : (p : Pending) (u : List ℕ) (v : ℕ) → v ≡ placeOf (p .consumer) ds → set (pendingBytes cs p ++ u) 16 v ≡ pendingBytes ds p ++ u
+    (moved : (p : Pending) → good p ≡ true → placeOfName (p .consumer) ds ≡ movedPlace from add sub (placeOfName (p .consumer) cs)) where
+  row-set : (p : Pending) (u : List ℕ) (v : ℕ) → v ≡ placeOfName (p .consumer) ds → set (pendingBytes cs p ++ u) 16 v ≡ pendingBytes ds p ++ u
   unfolding pendingBytes
   row-set p u v e =
       let i : List ℕ = idBytes (p .id) in
       let w : List ℕ = le 8 (p .time) ++ le 2 (p .count) in
-      ap (λ (l : List ℕ). set l 16 v) (append-assoc i (placeOf (p .consumer) cs ∷ w) u)
-      ∙ set-at i (placeOf (p .consumer) cs) (w ++ u) v 16 (length-id-bytes (p .id))
+      ap (λ (l : List ℕ). set l 16 v) (append-assoc i (placeOfName (p .consumer) cs ∷ w) u)
+      ∙ set-at i (placeOfName (p .consumer) cs) (w ++ u) v 16 (length-id-bytes (p .id))
       ∙ ap (λ (x : ℕ). i ++ (x ∷ (w ++ u))) e
-      ∙ sym (append-assoc i (placeOf (p .consumer) ds ∷ w) u)
+      ∙ sym (append-assoc i (placeOfName (p .consumer) ds ∷ w) u)
 
-  row-get : (p : Pending) (u : List ℕ) → getD (pendingBytes cs p ++ u) 16 0 ≡ placeOf (p .consumer) cs
+  row-get : (p : Pending) (u : List ℕ) → getD (pendingBytes cs p ++ u) 16 0 ≡ placeOfName (p .consumer) cs
   unfolding pendingBytes
   row-get p u =
       let i : List ℕ = idBytes (p .id) in
       let w : List ℕ = le 8 (p .time) ++ le 2 (p .count) in
-      ap (λ (l : List ℕ). getD l 16 0) (append-assoc i (placeOf (p .consumer) cs ∷ w) u)
-      ∙ getD-at i (placeOf (p .consumer) cs) (w ++ u) 0 16 (length-id-bytes (p .id))
+      ap (λ (l : List ℕ). getD l 16 0) (append-assoc i (placeOfName (p .consumer) cs ∷ w) u)
+      ∙ getD-at i (placeOfName (p .consumer) cs) (w ++ u) 0 16 (length-id-bytes (p .id))
 
   pub entries-moved : (ps : List Pending) (t : List ℕ) → allOf good ps ≡ true
       → placesMoved from add sub (length ps) (allPending cs ps ++ t) ≡ allPending ds ps ++ t
@@ -120,7 +120,7 @@ module _ (from add sub : ℕ) (cs ds : List (List ℕ)) (good : Pending → Bool
       let x = all-of good p ps e in
       let u : List ℕ = allPending cs ps ++ t in
       let a : (pendingBytes cs p ++ allPending cs ps) ++ t ≡ pendingBytes cs p ++ u = append-assoc (pendingBytes cs p) (allPending cs ps) t in
-      let v : movedPlace from add sub (getD (pendingBytes cs p ++ u) 16 0) ≡ placeOf (p .consumer) ds =
+      let v : movedPlace from add sub (getD (pendingBytes cs p ++ u) 16 0) ≡ placeOfName (p .consumer) ds =
       ap (movedPlace from add sub) (row-get p u) ∙ sym (moved p (x .0)) in
       let r : take 27 (set (pendingBytes cs p ++ u) 16 (movedPlace from add sub (getD (pendingBytes cs p ++ u) 16 0))) ≡ pendingBytes ds p =
       ap (take 27) (row-set p u (movedPlace from add sub (getD (pendingBytes cs p ++ u) 16 0)) v) ∙ take-at (pendingBytes ds p) u 27 (length-entry ds p []) in

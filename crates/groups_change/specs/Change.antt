@@ -1,20 +1,16 @@
 -- What a change answers and leaves, in terms of the group that a region holds. Assumes nothing.
+use mathlib.Core.Bool.{Bool, false, not}
 use mathlib.Core.List.{List, _∷_, _++_}
 use mathlib.Core.Option.{Option, some, none}
 use Prim.Native.Nat.{ℕ, suc}
 use lib.Dec.{leb}
 use lib.ListN.{length, take, drop}
-use Rattle.octets.specs.Pick.{pick}
+use Rattle.octets.specs.Pick.{pick, both}
 use Rattle.octets.specs.Bytes.{le}
 use Rattle.id.specs.declared.Id.{Id}
 use Rattle.id.specs.Bytes.{idBytes}
 use Rattle.groups.specs.Group.{Pending, Group, mostPending}
-use Rattle.groups.specs.Step.{idle, withoutName, findPending, claim}
-use Rattle.groups.specs.Answer.{lacksConsumer}
-use Rattle.groups_change.specs.declared.Delivery.{Delivery}
-use Rattle.groups_change.specs.declared.Delivery.the-variants.{Done, Refused}
-use Rattle.groups_change.specs.declared.Claimed.{Claimed}
-use Rattle.groups_change.specs.declared.Claimed.the-variants.{Moved, NotMoved, Refused as ClaimRefused}
+use Rattle.groups.specs.Step.{idle, withoutName, findPending, claim, lacksConsumer}
 
 -- one part of a group changed
 abbrev pub withPending : List Pending → Group → Group
@@ -33,35 +29,35 @@ abbrev pub rowOf : Id → ℕ → ℕ → ℕ → List ℕ
 rowOf i place time count = idBytes i ++ (place ∷ (le 8 time ++ le 2 count))
 
 -- deliver: 12, a consumer would be made and 16 exist; then 13, 256 pending
-unfoldable pub deliverAnswer : List ℕ → Group → Delivery
-deliverAnswer consumer g =
-    pick (lacksConsumer consumer g) (Refused 12) (pick (leb mostPending (length (g .pending))) (Refused 13) Done)
+unfoldable pub refusalToDeliver : List ℕ → Group → Option ℕ
+refusalToDeliver consumer g =
+    pick (lacksConsumer consumer g) (some 12) (pick (leb mostPending (length (g .pending))) (some 13) none)
 
 -- a refusal leaves the bytes as they were
-abbrev pub deliverLeaves : Delivery → List ℕ → List ℕ → List ℕ
-deliverLeaves Done old new = new
-deliverLeaves (Refused n) old new = old
+abbrev pub unlessRefused : Option ℕ → List ℕ → List ℕ → List ℕ
+unlessRefused none old new = new
+unlessRefused (some n) old new = old
 
 -- acknowledge: 1, or 0 if not pending
 abbrev pub foundCount : Option Pending → ℕ
 foundCount none = 0
 foundCount (some p) = 1
 
--- claim: moved if the ID is pending and idle for long enough; 12
-abbrev pub claimOf : List ℕ → ℕ → ℕ → Group → Option Pending → Claimed
-claimOf consumer least now g none = NotMoved
-claimOf consumer least now g (some p) =
-    pick (leb least (idle now (p .time))) (pick (lacksConsumer consumer g) (ClaimRefused 12) Moved) NotMoved
+-- the claim's conditions: the ID is pending, and idle for long enough
+abbrev pub isClaimable : ℕ → ℕ → Option Pending → Bool
+isClaimable least now none = false
+isClaimable least now (some p) = leb least (idle now (p .time))
 
-unfoldable pub claimAnswer : List ℕ → ℕ → Id → ℕ → Group → Claimed
-claimAnswer consumer least i now g = claimOf consumer least now g (findPending i (g .pending))
+-- claim: 12, a consumer would be made and 16 exist
+unfoldable pub refusalToClaim : List ℕ → ℕ → Id → ℕ → Group → Option ℕ
+refusalToClaim consumer least i now g =
+    pick (both (isClaimable least now (findPending i (g .pending))) (lacksConsumer consumer g)) (some 12) none
+
+-- whether the entry moves to the consumer
+unfoldable pub claimMoves : List ℕ → ℕ → Id → ℕ → Group → Bool
+claimMoves consumer least i now g =
+    both (isClaimable least now (findPending i (g .pending))) (not (lacksConsumer consumer g))
 
 abbrev pub claimedAs : List ℕ → ℕ → Group → Option Pending → Group
 claimedAs consumer now g none = g
 claimedAs consumer now g (some p) = claim consumer now p g
-
--- only a move changes the bytes
-abbrev pub claimLeaves : Claimed → List ℕ → List ℕ → List ℕ
-claimLeaves Moved old new = new
-claimLeaves NotMoved old new = old
-claimLeaves (ClaimRefused n) old new = old

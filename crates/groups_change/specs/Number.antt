@@ -1,5 +1,4 @@
--- The exact rules' numbers and values (01, Refusal numbers; Commands) for each case of the enums that functions of this crate answer.
--- Assumes nothing.
+-- The exact rules' number and values (01, Refusal numbers; Commands) of each case of the enums that deliver and claim answer. Assumes nothing.
 use mathlib.Core.Bool.{Bool, true, false}
 use mathlib.Core.Option.{Option, some, none}
 use Prim.Native.Nat.{ℕ}
@@ -8,12 +7,12 @@ use Rattle.groups_change.specs.declared.Delivery.the-variants.{Done, Ref
 use Rattle.groups_change.specs.declared.Claimed.{Claimed}
 use Rattle.groups_change.specs.declared.Claimed.the-variants.{Moved, NotMoved, Refused as ClaimRefused}
 
--- group read: 12, a consumer would be made and 16 exist; 13, 256 pending; otherwise the ID is answered
+-- group read: a refusal's number; otherwise the ID is answered
 abbrev pub deliveryRefusal : Delivery → Option ℕ
 deliveryRefusal Done = none
 deliveryRefusal (Refused n) = some n
 
--- claim: 12; otherwise "moved" or "not moved"
+-- claim: a refusal's number; otherwise "moved" or "not moved"
 abbrev pub claimedRefusal : Claimed → Option ℕ
 claimedRefusal Moved = none
 claimedRefusal NotMoved = none

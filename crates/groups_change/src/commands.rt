@@ -4,13 +4,15 @@ ghost use mathlib.Core.Path.{_≡_};
 ghost use mathlib.Core.Bool.{true};
 ghost use Prim.Native.Nat.{_≤_};
 ghost use lib.ListN.{length};
+ghost use Rattle.octets.specs.Pick.{pick};
 ghost use Rattle.id.specs.Id.{below};
 ghost use Rattle.groups.specs.Group.{longestName};
 ghost use Rattle.groups.specs.Bytes.{regionBytes};
 ghost use Rattle.groups.specs.Parse.{groupIn};
 ghost use Rattle.groups.specs.Step as step;
 ghost use Rattle.groups.specs.Answer.{SoundRegion};
-ghost use Rattle.groups_change.specs.Change.{deliverAnswer, deliverLeaves, foundCount, claimAnswer, claimedAs, claimLeaves};
+ghost use Rattle.groups_change.specs.Change.{refusalToDeliver, unlessRefused, foundCount, refusalToClaim, claimMoves, claimedAs};
+ghost use Rattle.groups_change.specs.Number.{deliveryRefusal, claimedRefusal, isMoved};
 use crate::Claimed;
 use crate::Delivery;
 use crate::consumers::lacks_consumer;
@@ -24,15 +26,15 @@ use crate::pieces::grown;
 use crate::pieces::idle_for;
 use groups::ENTRIES_AT;
 use groups::ENTRY_BYTES;
-use groups::Held;
 use groups::MOST_PENDING;
-use groups::Place;
+use groups::NamePlace;
+use groups::PendingEntry;
 use id::Id;
 
 // The ID, above the last delivered one, becomes last delivered and pending for the consumer.
 pub fn deliver(region: &mut [u8], consumer: &[u8], time: u64, id: Id) -> Delivery
     requires { ⌜ SoundRegion (now region) × (1 ≤ length (now consumer)) × (length (now consumer) ≤ longestName) × (below (groupIn (now region) .delivered) id ≡ true) ⌝ }
-    ensures { λ r. ⌜ (r ≡ deliverAnswer (now (consumer .entry)) (groupIn (now (region .entry)))) × (now (region .exit) ≡ deliverLeaves r (now (region .entry)) (regionBytes (step.deliver (now (consumer .entry)) time id (groupIn (now (region .entry)))))) ⌝ }
+    ensures { λ r. ⌜ (deliveryRefusal r ≡ refusalToDeliver (now (consumer .entry)) (groupIn (now (region .entry)))) × (now (region .exit) ≡ unlessRefused (deliveryRefusal r) (now (region .entry)) (regionBytes (step.deliver (now (consumer .entry)) time id (groupIn (now (region .entry)))))) ⌝ }
 {
     if lacks_consumer(region, consumer) {
         return Delivery::Refused(12);
@@ -51,7 +53,7 @@ pub fn acknowledge(region: &mut [u8], id: Id) -> u64
     requires { ⌜ SoundRegion (now region) ⌝ }
     ensures { λ r. ⌜ (r ≡ foundCount (step.findPending id (groupIn (now (region .entry)) .pending))) × (now (region .exit) ≡ regionBytes (step.acknowledge id (groupIn (now (region .entry))))) ⌝ }
 {
-    let Held::Entry(at, _, _, _) = groups::find_pending(region, id) else {
+    let PendingEntry::Entry(at, _, _, _) = groups::find_pending(region, id) else {
         return 0;
     };
     remove_entry(region, at);
@@ -61,9 +63,9 @@ pub fn acknowledge(region: &mut [u8], id: Id) -> u64
 // An entry that is idle for long enough moves to the consumer.
 pub fn claim(region: &mut [u8], consumer: &[u8], least_idle: u64, id: Id, time: u64) -> Claimed
     requires { ⌜ SoundRegion (now region) × (1 ≤ length (now consumer)) × (length (now consumer) ≤ longestName) ⌝ }
-    ensures { λ r. ⌜ (r ≡ claimAnswer (now (consumer .entry)) «least_idle» id time (groupIn (now (region .entry)))) × (now (region .exit) ≡ claimLeaves r (now (region .entry)) (regionBytes (claimedAs (now (consumer .entry)) time (groupIn (now (region .entry))) (step.findPending id (groupIn (now (region .entry)) .pending))))) ⌝ }
+    ensures { λ r. ⌜ (claimedRefusal r ≡ refusalToClaim (now (consumer .entry)) «least_idle» id time (groupIn (now (region .entry)))) × (isMoved r ≡ claimMoves (now (consumer .entry)) «least_idle» id time (groupIn (now (region .entry)))) × (now (region .exit) ≡ pick (isMoved r) (regionBytes (claimedAs (now (consumer .entry)) time (groupIn (now (region .entry))) (step.findPending id (groupIn (now (region .entry)) .pending)))) (now (region .entry))) ⌝ }
 {
-    let Held::Entry(at, _, since, count) = groups::find_pending(region, id) else {
+    let PendingEntry::Entry(at, _, since, count) = groups::find_pending(region, id) else {
         return Claimed::NotMoved;
     };
     if idle_for(time, since) < least_idle {
@@ -83,7 +85,7 @@ pub fn drop_consumer(region: &mut [u8], consumer: &[u8]) -> u64
     requires { ⌜ SoundRegion (now region) ⌝ }
     ensures { λ r. ⌜ (r ≡ length (step.pendingOf (now (consumer .entry)) (groupIn (now (region .entry)) .pending))) × (now (region .exit) ≡ regionBytes (step.dropConsumer (now (consumer .entry)) (groupIn (now (region .entry))))) ⌝ }
 {
-    let Place::At(k) = groups::find_consumer(region, consumer) else {
+    let NamePlace::At(k) = groups::find_consumer(region, consumer) else {
         return 0;
     };
     let gone = remove_entries(region, k);

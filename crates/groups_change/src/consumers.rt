@@ -7,10 +7,10 @@ ghost use Prim.Native.Nat.{_≤_, _<_};
 ghost use lib.ListN.{length, getD};
 ghost use Rattle.groups.specs.declared.Spot.{Spot};
 ghost use Rattle.groups.specs.Group.{longestName, mostConsumers};
-ghost use Rattle.groups.specs.Bytes.{placeOf, regionBytes};
+ghost use Rattle.groups.specs.Bytes.{placeOfName, regionBytes};
 ghost use Rattle.groups.specs.Parse.{groupIn};
-ghost use Rattle.groups.specs.Step.{withName, pendingOf};
-ghost use Rattle.groups.specs.Answer.{SoundRegion, spotFrom, lacksConsumer, withConsumer};
+ghost use Rattle.groups.specs.Step.{withName, pendingOf, lacksConsumer};
+ghost use Rattle.groups.specs.Answer.{SoundRegion, spotFrom, withConsumer};
 ghost use Rattle.groups_change.specs.Change.{withoutConsumer};
 use crate::pieces::move_places;
 use crate::pieces::name_field;
@@ -18,7 +18,7 @@ use groups::CONSUMERS_AT;
 use groups::FIELD_BYTES;
 use groups::FIELDS_AT;
 use groups::MOST_CONSUMERS;
-use groups::Place;
+use groups::NamePlace;
 use groups::Spot;
 
 // A consumer would be made and 16 exist.
@@ -27,8 +27,8 @@ pub fn lacks_consumer(region: &[u8], name: &[u8]) -> bool
     ensures { λ r. ⌜ r ≡ lacksConsumer (now (name .entry)) (groupIn (now (region .entry))) ⌝ }
 {
     match groups::find_consumer(region, name) {
-        Place::At(_) => false,
-        Place::Absent => MOST_CONSUMERS <= groups::consumer_count(region),
+        NamePlace::At(_) => false,
+        NamePlace::Absent => MOST_CONSUMERS <= groups::consumer_count(region),
     }
 }
 
@@ -54,7 +54,7 @@ fn insert_consumer(region: &mut [u8], name: &[u8], k: usize)
 // The consumer's place, made if new.
 pub fn make_consumer(region: &mut [u8], name: &[u8]) -> usize
     requires { ⌜ SoundRegion (now region) × (1 ≤ length (now name)) × (length (now name) ≤ longestName) × (lacksConsumer (now name) (groupIn (now region)) ≡ false) ⌝ }
-    ensures { λ r. ⌜ (r ≡ placeOf (now (name .entry)) (withName (now (name .entry)) (groupIn (now (region .entry)) .consumers))) × (r < mostConsumers) × (now (region .exit) ≡ regionBytes (withConsumer (now (name .entry)) (groupIn (now (region .entry))))) ⌝ }
+    ensures { λ r. ⌜ (r ≡ placeOfName (now (name .entry)) (withName (now (name .entry)) (groupIn (now (region .entry)) .consumers))) × (r < mostConsumers) × (now (region .exit) ≡ regionBytes (withConsumer (now (name .entry)) (groupIn (now (region .entry))))) ⌝ }
 {
     match groups::spot_of(region, name) {
         Spot::Known(k) => k,

@@ -18,7 +18,7 @@ use Rattle.radix.specs.Record.{treeAt, treeOf, entriesOf}
 use Rattle.radix.specs.Walk.{findIn}
 use Rattle.radix.specs.Gathering.{gathered}
 use Rattle.radix.proofs.Laws.{none-listed, root-within, shape-find, shape-gathered, holds}
-use Rattle.radix_bytes.specs.Bytes.{recordFrom, poolIn}
+use Rattle.radix_bytes.specs.Bytes.{recordSize, recordFrom, poolIn}
 use Rattle.radix_bytes.proofs.Laws.{label-size}
 use Rattle.radix_judge.specs.Visit.{isSound}
 use Rattle.radix_judge.proofs.Laws.{not-sound, sound-holds}
@@ -117,7 +117,7 @@ module _ (s : List ℕ) (i : IsSound (entriesIn s)) where
       entries-in s ∙ e ∙ ap some (sym (if-some (l .ok) (tabled (l .table)) es w))
 
 -- bytes that were judged
-module _ (s : List ℕ) (z : length s ≡ 6658) (t : Bool) (j : t ≡ isSound (recordFrom s)) where
+module _ (s : List ℕ) (z : length s ≡ recordSize) (t : Bool) (j : t ≡ isSound (recordFrom s)) where
   pub judged-2 : (o : Operation) → t ≡ false → refused 2 ≡ replyIn o (entriesIn s)
   judged-2 o f = ap (replyIn o) (not-sound (recordFrom s) (label-size s z) (sym j ∙ f) ∙ sym (entries-in s))
 

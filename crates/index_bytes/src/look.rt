@@ -5,14 +5,14 @@ ghost use lib.ListN.{length};
 ghost use Rattle.keys.specs.Operation.{refused, find, firstAtOrAbove, lastAtOrBelow, replyIn, valueReply};
 ghost use Rattle.keys.specs.Answer.{replyOf, neighbourOf};
 ghost use Rattle.keys.specs.Listing.{Lists, IsSound};
-ghost use Rattle.radix.specs.Answer.{foundOf};
+ghost use Rattle.radix.specs.Answer.{lookupOf};
 ghost use Rattle.index_bytes.specs.Held.{recordSize, entriesIn};
 use keys::Answer;
 use keys::Listed;
 use keys::Neighbour;
 use keys::Outcome;
 use keys::is_key;
-use radix::Found;
+use radix::Lookup;
 
 // All entries, in order: one validation of the whole record.
 pub fn list(bytes: &[u8]) -> Listed
@@ -23,12 +23,12 @@ pub fn list(bytes: &[u8]) -> Listed
 }
 
 // What a walk found.
-fn answer_of(f: Found) -> Answer
-    ensures { λ r. ⌜ replyOf r ≡ valueReply (foundOf f) ⌝ }
+fn answer_of(f: Lookup) -> Answer
+    ensures { λ r. ⌜ replyOf r ≡ valueReply (lookupOf f) ⌝ }
 {
     match f {
-        Found::Value(v) => Answer::Held(v),
-        Found::Nothing => Answer::Absent,
+        Lookup::Value(v) => Answer::Held(v),
+        Lookup::Nothing => Answer::Absent,
     }
 }
 

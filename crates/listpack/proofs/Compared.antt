@@ -1,4 +1,4 @@
--- An element compared with a string: an integer is a string's exactly when the string is recognised as it. Assumes nothing.
+-- An integer compared with a string: it is a string's exactly when the string is recognised as it. Assumes nothing.
 use mathlib.Core.Path.{_≡_, refl, sym, ap, _∙_}
 use mathlib.Core.Bool.{Bool, true, false}
 use mathlib.Core.List.{List}

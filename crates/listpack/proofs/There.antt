@@ -17,7 +17,7 @@ use Rattle.decimal.specs.Text.{textOf}
 use Rattle.listpack.specs.Width.{extend, halfOf}
 use Rattle.listpack.specs.Element.{backLength}
 use Rattle.listpack.specs.Read.{parse, asInteger, closeInteger, integerStands, asText, closeText, textStands, tagWidth, readWide, readBy, readElement}
-use Rattle.listpack.specs.Cursor.{sizeOf}
+use Rattle.listpack.specs.AtPlace.{sizeOf}
 use Rattle.listpack.specs.Known.{ElementAt, stringBy, stringAt, patternIn, sizeAt, patternAt, afterAt, endAt, areThere}
 use Rattle.listpack.specs.declared.Element.{Element}
 use Rattle.listpack.specs.declared.Element.the-variants.{Integer, Text, Bad}

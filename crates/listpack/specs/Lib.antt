@@ -4,6 +4,5 @@ pub mod Element
 pub mod Listpack
 pub mod Read
 -- What functions answer on the way.
-pub mod Cursor
 pub mod Known
 pub mod AtPlace

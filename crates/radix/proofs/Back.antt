@@ -10,7 +10,7 @@ use lib.Dec.{leb}
 use lib.ListN.{length, length-append}
 use borrow.Author.Tests.{leb-true, leb-false}
 use Rattle.keys.specs.Entries.{Entry, entry, rising, allAbove, isMap}
-use Rattle.radix.specs.Shape.{Shape, nil, node, own, longer, ownEntry, prefixOf, cut, entriesIn, startingWith, notStartingWith, child, branch, childrenOf, shape}
+use Rattle.radix.specs.Shape.{Shape, nil, node, own, longer, ownEntry, prefixOf, cut, entriesBelow, startingWith, notStartingWith, child, branch, childrenOf, shape}
 use Rattle.radix.specs.Canon.{isEnd, canonical}
 use Rattle.radix.proofs.Under.{under, remainders, entries-node, entries-only, cut-under, prefix-cut}
 use Rattle.radix.proofs.Keys.{From, StartsAt, short-under, longer-from}
@@ -22,11 +22,11 @@ use Rattle.radix.proofs.Rules.{Rules, leaf, only, oneOf, Some, rules-ca
 -- the rules, and the entries
 pub record Good (first : Bool) (least : ℕ) (es : List Entry) (s : Shape) : Type 0 where
   pub kept : Rules first least s
-  pub back : entriesIn [] s ≡ es
+  pub back : entriesBelow [] s ≡ es
 
 -- what has no common prefix ends at a key node, or where the keys part
 pub prefix-end : (v : Option ℕ) {c : Shape} → Rules true 0 c → Some (remainders v c) → prefixOf (remainders v c) ≡ [] → isEnd v c ≡ true
-unfolding entriesIn
+unfolding entriesBelow
 prefix-end (some v) r h p = refl
 prefix-end none leaf h p = absurd h
 prefix-end none (only {a = a} {l = l} {v = v} {below = below} e b) h p =
@@ -38,7 +38,7 @@ empty [] h = refl
 empty (b ∷ l) h = absurd (omega arith)
 
 -- siblings, where the longest common prefix is no run
-pub promote : {least : ℕ} {s : Shape} → Rules false least s → length (prefixOf (entriesIn [] s)) < 2 → Rules true 0 s
+pub promote : {least : ℕ} {s : Shape} → Rules false least s → length (prefixOf (entriesBelow [] s)) < 2 → Rules true 0 s
 promote leaf h = leaf
 promote (oneOf {a = a} {v = v} {below = below} {later = nil} n k e b m) h =
     let w = held-entries v e b in
@@ -115,7 +115,7 @@ module _ (c : List Entry → Shape) (f : ℕ) (good : (xs : List Entry) → risi
       (ap (cut 1) (w .starts) ∙ cut-under (b ∷ []) xs) (node-good least b xs rest (branch c n rest) m p q i g))
 
   branch-good : (n : ℕ) (es : List Entry) (least : ℕ) → rising es ≡ true → Short (suc f) es → From least es → length es ≤ n → Good false least es (branch c n es)
-  unfolding branch entriesIn rising
+  unfolding branch entriesBelow rising
   branch-good zero [] least r h m k = record { kept = leaf; back = refl }
   branch-good zero (e ∷ es) least r h m k = absurd (omega arith)
   branch-good (suc n) [] least r h m k = record { kept = leaf; back = refl }
@@ -144,7 +144,7 @@ module _ (c : List Entry → Shape) (f : ℕ) (good : (xs : List Entry) → risi
       record { kept = promote (g .kept) (rw (g .back) p); back = g .back }
 
 pub children-good : (f : ℕ) (es : List Entry) → rising es ≡ true → Short f es → Good true 0 (longer es) (childrenOf f es)
-unfolding childrenOf entriesIn
+unfolding childrenOf entriesBelow
 children-good zero es r h = record { kept = leaf; back = sym (no-longer es h) }
 children-good (suc f) es r h =
     let e = own-longer es r in
@@ -167,7 +167,7 @@ module _ (es : List Entry) (m : isMap es ≡ true) where
       let f = map-fit es m in
       subst (λ (z : List Entry). Good true 0 z (childrenOf 16 es)) (longer-from 0 es (fit-from es f)) (children-good 16 es (map-rising es m) (fit-short es f))
 
-  pub shape-back : entriesIn [] (shape es) ≡ es
+  pub shape-back : entriesBelow [] (shape es) ≡ es
   shape-back = shape-good .back
 
   pub shape-rules : Rules true 0 (shape es)

@@ -8,7 +8,7 @@ use native.Mathlib.Omega.{arith}
 use lib.ListN.{length, drop, length-append, length-drop}
 use Rattle.octets.specs.Pick.{pick, both}
 use Rattle.keys.specs.Entries.{Entry, isMap}
-use Rattle.radix.specs.Shape.{Shape, nil, node, ownEntry, entriesIn, longer, prefixOf, branch, childrenOf, shape, nodes, nodeCount, startsWith, pathOf, pathLength}
+use Rattle.radix.specs.Shape.{Shape, nil, node, ownEntry, entriesBelow, longer, prefixOf, branch, childrenOf, shape, nodes, nodeCount, startsWith, pathOf, pathLength}
 use Rattle.radix.specs.Canon.{isNil, isEnd, isHeld}
 use Rattle.radix.proofs.Under.{under, remainders, entries-node, length-under}
 use Rattle.keys.proofs.Laws.{map-length}
@@ -16,7 +16,7 @@ use Rattle.radix.proofs.Rules.{Rules, leaf, only, oneOf, Some, length-s
 use Rattle.radix.proofs.Back.{shape-back, shape-rules}
 
 keys : Shape → ℕ
-keys s = length (entriesIn [] s)
+keys s = length (entriesBelow [] s)
 
 ownKeys : Option ℕ → ℕ
 ownKeys v = length (ownEntry [] v)
@@ -25,8 +25,8 @@ keys-node : (l : List ℕ) (v : Option ℕ) (below later : Shape) → keys (node
 unfolding keys ownKeys
 keys-node l v below later =
     ap length (entries-node [] l v below later)
-    ∙ length-append (under l (remainders v below)) (entriesIn [] later)
-    ∙ ap (λ (n : ℕ). n + length (entriesIn [] later)) (length-under l (remainders v below) ∙ length-append (ownEntry [] v) (entriesIn [] below))
+    ∙ length-append (under l (remainders v below)) (entriesBelow [] later)
+    ∙ ap (λ (n : ℕ). n + length (entriesBelow [] later)) (length-under l (remainders v below) ∙ length-append (ownEntry [] v) (entriesBelow [] below))
 
 -- siblings
 width : Shape → ℕ
@@ -65,25 +65,25 @@ spare-nodes (only {a = a} {l = l} {v = v} {below = below} e b) =
 spare-nodes (oneOf {a = a} {v = v} {below = below} {later = later} n h e b m) =
     rw n (omega (arith, keys-node (a ∷ []) v below later, spare-held v below e, spare-nodes b, spare-nodes m, spare-siblings later))
 
-spare-some : (s : Shape) → Some (entriesIn [] s) → 3 ≤ spare true s
-unfolding entriesIn spare width
+spare-some : (s : Shape) → Some (entriesBelow [] s) → 3 ≤ spare true s
+unfolding entriesBelow spare width
 spare-some nil h = absurd h
 spare-some (node l v below nil) h = omega arith
 spare-some (node l v below (node l′ v′ below′ later)) h = omega arith
 
-spare-part : (first : Bool) (s : Shape) → Some (entriesIn [] s) → 2 ≤ spare first s
-unfolding entriesIn spare width
+spare-part : (first : Bool) (s : Shape) → Some (entriesBelow [] s) → 2 ≤ spare first s
+unfolding entriesBelow spare width
 spare-part first nil h = absurd h
 spare-part true (node l v below nil) h = omega arith
 spare-part true (node l v below (node l′ v′ below′ later)) h = omega arith
 spare-part false (node l v below later) h = omega arith
 
 -- of any part of a shape, and of all the children of a node
-pub part-nodes : {first : Bool} {least : ℕ} {s : Shape} → Rules first least s → Some (entriesIn [] s) → nodes s + 2 ≤ 4 * length (entriesIn [] s)
+pub part-nodes : {first : Bool} {least : ℕ} {s : Shape} → Rules first least s → Some (entriesBelow [] s) → nodes s + 2 ≤ 4 * length (entriesBelow [] s)
 unfolding keys
 part-nodes {first} {s = s} r h = omega (arith, spare-nodes r, spare-part first s h)
 
-pub children-nodes : {s : Shape} → Rules true 0 s → Some (entriesIn [] s) → nodes s + 3 ≤ 4 * length (entriesIn [] s)
+pub children-nodes : {s : Shape} → Rules true 0 s → Some (entriesBelow [] s) → nodes s + 3 ≤ 4 * length (entriesBelow [] s)
 unfolding keys
 children-nodes {s} r h = omega (arith, spare-nodes r, spare-some s h)
 

@@ -4,7 +4,7 @@ use mathlib.Core.List.{List, [], _∷_, map}
 use Prim.Native.Nat.{ℕ}
 use Rattle.octets.specs.Compare.{orderOf, same}
 use Rattle.keys.specs.Entries.{Entry, entry, insert, without}
-use Rattle.radix.specs.Shape.{own, longer, common, prefixOf, cut, startingWith, notStartingWith, branch, childrenOf, shape, nodes, nodeCount, startsWith, pathOf, pathLength, entriesIn}
+use Rattle.radix.specs.Shape.{own, longer, common, prefixOf, cut, startingWith, notStartingWith, branch, childrenOf, shape, nodes, nodeCount, startsWith, pathOf, pathLength, entriesBelow}
 
 abbrev foo : List ℕ
 foo = 102 ∷ 111 ∷ 111 ∷ []
@@ -42,6 +42,6 @@ unfolding pathLength pathOf startsWith shape childrenOf branch cut prefixOf comm
 paths v w = refl
 
 -- the shape has its entries
-pub back : (v w : ℕ) → entriesIn [] (shape (entry foobar v ∷ entry footer w ∷ [])) ≡ entry foobar v ∷ entry footer w ∷ []
-unfolding entriesIn shape childrenOf branch cut prefixOf common longer own startingWith notStartingWith
+pub back : (v w : ℕ) → entriesBelow [] (shape (entry foobar v ∷ entry footer w ∷ [])) ≡ entry foobar v ∷ entry footer w ∷ []
+unfolding entriesBelow shape childrenOf branch cut prefixOf common longer own startingWith notStartingWith
 back v w = refl

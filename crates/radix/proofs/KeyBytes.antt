@@ -10,10 +10,10 @@ use Rattle.octets.specs.Bytes.{Bytes}
 use Rattle.octets.proofs.Laws.{bytes-area, bytes-append}
 use Rattle.keys.specs.Table.{lengthOf}
 use Rattle.keys.proofs.Laws.{Keys, keys-append}
-use Rattle.radix.specs.Shape.{Shape, nil, node, ownEntry, entriesIn}
+use Rattle.radix.specs.Shape.{Shape, nil, node, ownEntry, entriesBelow}
 use Rattle.radix.specs.Record.{Nodes, labelOf, valueOf, treeAt}
 
-abbrev LabelBytes : Shape → Type 0
+abbrev pub LabelBytes : Shape → Type 0
 LabelBytes nil = Unit {0}
 LabelBytes (node l v below later) = Bytes l × (LabelBytes below × LabelBytes later)
 
@@ -32,10 +32,10 @@ own-bytes : (k : List ℕ) (v : Option ℕ) → Bytes k → Keys Bytes (ownEntry
 own-bytes k none h = tt
 own-bytes k (some v) h = (h, tt)
 
-pub entries-bytes : (before : List ℕ) (s : Shape) → Bytes before → LabelBytes s → Keys Bytes (entriesIn before s)
-unfolding entriesIn
+pub entries-bytes : (before : List ℕ) (s : Shape) → Bytes before → LabelBytes s → Keys Bytes (entriesBelow before s)
+unfolding entriesBelow
 entries-bytes before nil h b = tt
 entries-bytes before (node l v below later) h b =
     let k = bytes-append h (b .0) in
-    keys-append Bytes (ownEntry (before ++ l) v) (entriesIn (before ++ l) below ++ entriesIn before later) (own-bytes (before ++ l) v k)
-    (keys-append Bytes (entriesIn (before ++ l) below) (entriesIn before later) (entries-bytes (before ++ l) below k (b .1 .0)) (entries-bytes before later h (b .1 .1)))
+    keys-append Bytes (ownEntry (before ++ l) v) (entriesBelow (before ++ l) below ++ entriesBelow before later) (own-bytes (before ++ l) v k)
+    (keys-append Bytes (entriesBelow (before ++ l) below) (entriesBelow before later) (entries-bytes (before ++ l) below k (b .1 .0)) (entries-bytes before later h (b .1 .1)))

@@ -12,7 +12,7 @@ use Rattle.octets.specs.Maybe.{orElse}
 use Rattle.octets.specs.Compare.{same}
 use Rattle.octets.proofs.Laws.{same-true}
 use Rattle.keys.specs.Entries.{Entry, lookup, isMap}
-use Rattle.radix.specs.Shape.{Shape, nil, node, ownEntry, entriesIn, shape, startsWith}
+use Rattle.radix.specs.Shape.{Shape, nil, node, ownEntry, entriesBelow, shape, startsWith}
 use Rattle.radix.specs.Canon.{canonical}
 use Rattle.radix.specs.Walk.{reached, findIn}
 use Rattle.radix.proofs.Under.{under, remainders, entries-node}
@@ -68,29 +68,29 @@ module _ (a : ℕ) (l k : List ℕ) (xs ys : List Entry) where
       ∙ ap (λ (o : Option ℕ). orElse o (lookup k ys))
       (lookup-none k (under (a ∷ l) xs) (keys-below (λ (x : List ℕ). same k x ≡ false) (a ∷ l) (λ x. same-not (a ∷ l) k x h) xs))
 
-find-node : (a : ℕ) (l : List ℕ) (v : Option ℕ) (below later : Shape) → From 0 (entriesIn [] below) → From (suc a) (entriesIn [] later)
-    → ((k : List ℕ) → findIn below k ≡ lookup k (entriesIn [] below)) → ((k : List ℕ) → findIn later k ≡ lookup k (entriesIn [] later))
-    → (k : List ℕ) → findIn (node (a ∷ l) v below later) k ≡ lookup k (entriesIn [] (node (a ∷ l) v below later))
+find-node : (a : ℕ) (l : List ℕ) (v : Option ℕ) (below later : Shape) → From 0 (entriesBelow [] below) → From (suc a) (entriesBelow [] later)
+    → ((k : List ℕ) → findIn below k ≡ lookup k (entriesBelow [] below)) → ((k : List ℕ) → findIn later k ≡ lookup k (entriesBelow [] later))
+    → (k : List ℕ) → findIn (node (a ∷ l) v below later) k ≡ lookup k (entriesBelow [] (node (a ∷ l) v below later))
 unfolding findIn
 find-node a l v below later f g p q k =
     go (startsWith (a ∷ l) k) refl ∙ ap (lookup k) (sym (entries-node [] (a ∷ l) v below later))
   where
     go : (t : Bool) → startsWith (a ∷ l) k ≡ t
         → pick t (reached (drop (length (a ∷ l)) k) v (findIn below (drop (length (a ∷ l)) k))) (findIn later k)
-        ≡ lookup k (under (a ∷ l) (remainders v below) ++ entriesIn [] later)
+        ≡ lookup k (under (a ∷ l) (remainders v below) ++ entriesBelow [] later)
     go true e =
         let r = drop (length (a ∷ l)) k in
-        sym (lookup-into a l k (remainders v below) (entriesIn [] later) e g ∙ lookup-remainders v (entriesIn [] below) f r ∙ ap (reached r v) (sym (p r)))
-    go false e = q k ∙ sym (lookup-past a l k (remainders v below) (entriesIn [] later) e)
+        sym (lookup-into a l k (remainders v below) (entriesBelow [] later) e g ∙ lookup-remainders v (entriesBelow [] below) f r ∙ ap (reached r v) (sym (p r)))
+    go false e = q k ∙ sym (lookup-past a l k (remainders v below) (entriesBelow [] later) e)
 
-pub rules-find : {first : Bool} {least : ℕ} {s : Shape} → Rules first least s → (k : List ℕ) → findIn s k ≡ lookup k (entriesIn [] s)
-unfolding findIn entriesIn lookup
+pub rules-find : {first : Bool} {least : ℕ} {s : Shape} → Rules first least s → (k : List ℕ) → findIn s k ≡ lookup k (entriesBelow [] s)
+unfolding findIn entriesBelow lookup
 rules-find leaf k = refl
 rules-find (only {a = a} {l = l} {v = v} {below = below} e b) k = find-node a l v below nil (canonical-from b) tt (rules-find b) (λ k. refl) k
 rules-find (oneOf {a = a} {v = v} {below = below} {later = later} n h e b m) k =
     find-node a [] v below later (canonical-from b) (rules-from m) (rules-find b) (rules-find m) k
 
-pub canonical-find : (s : Shape) → canonical s ≡ true → (k : List ℕ) → findIn s k ≡ lookup k (entriesIn [] s)
+pub canonical-find : (s : Shape) → canonical s ≡ true → (k : List ℕ) → findIn s k ≡ lookup k (entriesBelow [] s)
 canonical-find s c = rules-find (canonical-rules s c)
 
 pub shape-find : (es : List Entry) → isMap es ≡ true → (k : List ℕ) → findIn (shape es) k ≡ lookup k es

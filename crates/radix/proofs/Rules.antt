@@ -11,7 +11,7 @@ use lib.ListN.{length}
 use borrow.Author.Tests.{leb-true, le-leb, eqb-true}
 use Rattle.octets.specs.Pick.{pick, both}
 use Rattle.keys.specs.Entries.{Entry, rising}
-use Rattle.radix.specs.Shape.{prefixOf, Shape, nil, node, entriesIn, firstByte}
+use Rattle.radix.specs.Shape.{prefixOf, Shape, nil, node, entriesBelow, firstByte}
 use Rattle.radix.specs.Canon.{isNil, isEnd, isHeld, isOnly, isOneOf, rules, canonical}
 use Rattle.radix.proofs.Under.{under, prefix-under, remainders, entries-node}
 use Rattle.radix.proofs.Keys.{From, from-weaken, from-under, StartsAt}
@@ -72,32 +72,32 @@ least-from : (first : Bool) (least a : ℕ) → least ≤ a → pick first 0 lea
 least-from true least a h = omega arith
 least-from false least a h = h
 
-from-node : (n a : ℕ) (l : List ℕ) (v : Option ℕ) (below later : Shape) → n ≤ a → From n (entriesIn [] later) → From n (entriesIn [] (node (a ∷ l) v below later))
+from-node : (n a : ℕ) (l : List ℕ) (v : Option ℕ) (below later : Shape) → n ≤ a → From n (entriesBelow [] later) → From n (entriesBelow [] (node (a ∷ l) v below later))
 from-node n a l v below later h m =
     rw (entries-node [] (a ∷ l) v below later)
-    (keys-append (StartsAt n) (under (a ∷ l) (remainders v below)) (entriesIn [] later) (from-under n a l h (remainders v below)) m)
+    (keys-append (StartsAt n) (under (a ∷ l) (remainders v below)) (entriesBelow [] later) (from-under n a l h (remainders v below)) m)
 
-pub rules-from : {first : Bool} {least : ℕ} {s : Shape} → Rules first least s → From (pick first 0 least) (entriesIn [] s)
-unfolding entriesIn
+pub rules-from : {first : Bool} {least : ℕ} {s : Shape} → Rules first least s → From (pick first 0 least) (entriesBelow [] s)
+unfolding entriesBelow
 rules-from leaf = tt
 rules-from (only {a = a} {l = l} {v = v} {below = below} e b) = from-node 0 a l v below nil (omega arith) tt
 rules-from (oneOf {first = first} {least = least} {a = a} {v = v} {below = below} {later = later} n h e b m) =
     let p = least-from first least a h in
-    from-node (pick first 0 least) a [] v below later p (from-weaken (pick first 0 least) (suc a) (omega arith) (entriesIn [] later) (rules-from m))
+    from-node (pick first 0 least) a [] v below later p (from-weaken (pick first 0 least) (suc a) (omega arith) (entriesBelow [] later) (rules-from m))
 
-pub canonical-from : {s : Shape} → Rules true 0 s → From 0 (entriesIn [] s)
+pub canonical-from : {s : Shape} → Rules true 0 s → From 0 (entriesBelow [] s)
 canonical-from r = rules-from r
 
-pub rules-rising : {first : Bool} {least : ℕ} {s : Shape} → Rules first least s → rising (entriesIn [] s) ≡ true
-unfolding entriesIn rising
+pub rules-rising : {first : Bool} {least : ℕ} {s : Shape} → Rules first least s → rising (entriesBelow [] s) ≡ true
+unfolding entriesBelow rising
 rules-rising leaf = refl
 rules-rising (only {a = a} {l = l} {v = v} {below = below} e b) =
     rw (entries-node [] (a ∷ l) v below nil)
-    (rising-join a l [] refl tt (remainders v below) (rising-own v (entriesIn [] below) (canonical-from b) (rules-rising b)))
+    (rising-join a l [] refl tt (remainders v below) (rising-own v (entriesBelow [] below) (canonical-from b) (rules-rising b)))
 rules-rising (oneOf {a = a} {v = v} {below = below} {later = later} n h e b m) =
     rw (entries-node [] (a ∷ []) v below later)
-    (rising-join a [] (entriesIn [] later) (rules-rising m) (rules-from m) (remainders v below)
-    (rising-own v (entriesIn [] below) (canonical-from b) (rules-rising b)))
+    (rising-join a [] (entriesBelow [] later) (rules-rising m) (rules-from m) (remainders v below)
+    (rising-own v (entriesBelow [] below) (canonical-from b) (rules-rising b)))
 
 -- every node has a key at it or below it
 abbrev pub Some : List Entry → Type 0
@@ -124,7 +124,7 @@ pub prefix-some : (l : List ℕ) (es : List Entry) → Some es → prefixOf (und
 prefix-some l [] h = absurd h
 prefix-some l (e ∷ es) h = prefix-under l e es
 
-held-some : (v : Option ℕ) (below : Shape) → isHeld v below ≡ true → (isNil below ≡ false → Some (entriesIn [] below)) → Some (remainders v below)
+held-some : (v : Option ℕ) (below : Shape) → isHeld v below ≡ true → (isNil below ≡ false → Some (entriesBelow [] below)) → Some (remainders v below)
 held-some (some v) below h k = tt
 held-some none nil h k = absurd (true≢false (sym h))
 held-some none (node l v below later) h k = k refl
@@ -134,11 +134,11 @@ end-held (some v) below h = refl
 end-held none nil h = h
 end-held none (node l v below later) h = refl
 
-some-node : (l : List ℕ) (v : Option ℕ) (below later : Shape) → Some (remainders v below) → Some (entriesIn [] (node l v below later))
+some-node : (l : List ℕ) (v : Option ℕ) (below later : Shape) → Some (remainders v below) → Some (entriesBelow [] (node l v below later))
 some-node l v below later h =
-    rw (entries-node [] l v below later) (some-left (under l (remainders v below)) (entriesIn [] later) (some-under l (remainders v below) h))
+    rw (entries-node [] l v below later) (some-left (under l (remainders v below)) (entriesBelow [] later) (some-under l (remainders v below) h))
 
-pub rules-some : {first : Bool} {least : ℕ} {s : Shape} → Rules first least s → isNil s ≡ false → Some (entriesIn [] s)
+pub rules-some : {first : Bool} {least : ℕ} {s : Shape} → Rules first least s → isNil s ≡ false → Some (entriesBelow [] s)
 rules-some leaf h = absurd (true≢false h)
 rules-some (only {a = a} {l = l} {v = v} {below = below} e b) h =
     some-node (a ∷ l) v below nil (held-some v below (end-held v below e) (rules-some b))
@@ -150,7 +150,7 @@ held-entries v {below} h b = held-some v below h (rules-some b)
 
 -- the other way round
 pub some-held : (v : Option ℕ) (below : Shape) → Some (remainders v below) → isHeld v below ≡ true
-unfolding entriesIn
+unfolding entriesBelow
 some-held (some v) below h = refl
 some-held none nil h = absurd h
 some-held none (node l v below later) h = refl

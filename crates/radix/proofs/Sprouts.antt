@@ -9,9 +9,9 @@ use lib.Dec.{eqb}
 use lib.ListN.{length, take, drop, length-append}
 use Rattle.octets.specs.Pick.{pick, both}
 use Rattle.keys.specs.Entries.{Entry, rising, isMap}
-use Rattle.radix.specs.Shape.{Shape, nil, node, prefixOf, ownEntry, entriesIn, shape}
+use Rattle.radix.specs.Shape.{Shape, nil, node, prefixOf, ownEntry, entriesBelow, shape}
 use Rattle.radix.specs.Canon.{isNil}
-use Rattle.radix.specs.Layout.{group, stretch, ownFirst, afterOwn, sproutNode, sprout}
+use Rattle.radix.specs.Sprout.{group, stretch, ownFirst, afterOwn, sproutNode, sprout}
 use Rattle.radix.proofs.Under.{under, remainders, entries-node, prefix-cut, length-under}
 use Rattle.radix.proofs.Keys.{StartsAt, From, short-under}
 use Rattle.keys.proofs.Laws.{Short, keys-left, keys-right, rising-right, map-rising, map-length, map-fit}
@@ -33,7 +33,7 @@ module _ (go : Bool → List Entry → Shape) {first : Bool} {es : List Entry} (
   held : Some (remainders (ownFirst (w .rest)) (go true (afterOwn (w .rest))))
   held = subst⁻¹ Some remains (w .held)
 
-  all : entriesIn [] (go false (g .later)) ≡ g .later → entriesIn [] (node (w .label) (ownFirst (w .rest)) (go true (afterOwn (w .rest))) (go false (g .later))) ≡ es
+  all : entriesBelow [] (go false (g .later)) ≡ g .later → entriesBelow [] (node (w .label) (ownFirst (w .rest)) (go true (afterOwn (w .rest))) (go false (g .later))) ≡ es
   all e =
       entries-node [] (w .label) (ownFirst (w .rest)) (go true (afterOwn (w .rest))) (go false (g .later))
       ∙ ap₂ (λ (y z : List Entry). under (w .label) y ++ z) remains e
@@ -58,7 +58,7 @@ run-good : (go : Bool → List Entry → Shape) (es : List Entry) (g : Grouped e
     → prefixOf es ≡ a ∷ p → go false (g .later) ≡ nil
     → Good true 0 (afterOwn (by-prefix es g r e .rest)) (go true (afterOwn (by-prefix es g r e .rest)))
     → Good true 0 es (sproutNode go (stretch true es) (take (group es) es) (drop (group es) es))
-unfolding by-prefix entriesIn
+unfolding by-prefix entriesBelow
 run-good go es g r e p a q n below =
     let w = by-prefix es g r e in
     let c = ap (under (prefixOf es)) (remains go g w below) in
@@ -69,8 +69,8 @@ run-good go es g r e p a q n below =
       kept =
           only (prefix-end (ownFirst (w .rest)) (below .kept) (held go g w below) (ap prefixOf (remains go g w below) ∙ past-prefix es (w .rest) (prefix-cut es) (w .held)))
           (below .kept);
-      back = ap (entriesIn []) (ap₂ (λ (l : List ℕ) (s : Shape). node l (ownFirst (w .rest)) (go true (afterOwn (w .rest))) s) (sym q) (sym n))
-          ∙ all go g w below (ap (entriesIn []) n ∙ sym m);
+      back = ap (entriesBelow []) (ap₂ (λ (l : List ℕ) (s : Shape). node l (ownFirst (w .rest)) (go true (afterOwn (w .rest))) s) (sym q) (sym n))
+          ∙ all go g w below (ap (entriesBelow []) n ∙ sym m);
     })
 
 sprout-some : (f : ℕ) (first : Bool) (es : List Entry) → 0 < f → Some es → isNil (sprout f first es) ≡ false
@@ -155,14 +155,14 @@ starts-any least [] h = h
 starts-any least (b ∷ k) h = omega arith
 
 sprout-next : (f : ℕ) → Sprouts f → Sprouts (suc f)
-unfolding sprout entriesIn
+unfolding sprout entriesBelow
 sprout-next f ih s first least [] r h m n z = record { kept = leaf; back = refl }
 sprout-next f ih s first least (e ∷ es) r h m n z =
     let l = key-long least (e .key) (m .0) in
     sprouted f s least (e ∷ es) (grouped e es r (starts-any least (e .key) (m .0))) r h m (omega (arith, h .0)) (omega arith) ih first _ refl z (omega (arith, h .0))
 
 sprout-zero : Sprouts 0
-unfolding sprout entriesIn
+unfolding sprout entriesBelow
 sprout-zero s first least [] r h m n z = record { kept = leaf; back = refl }
 sprout-zero s first least (e ∷ es) r h m n z = absurd (omega arith)
 

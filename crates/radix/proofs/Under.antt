@@ -10,7 +10,7 @@ use lib.Seq.{drop-append-seam}
 use borrow.Author.Tests.{eq-eqb, eqb-true}
 use Rattle.octets.specs.Pick.{pick}
 use Rattle.keys.specs.Entries.{Entry, entry}
-use Rattle.radix.specs.Shape.{Shape, nil, node, ownEntry, entriesIn, cut, common, prefixOf}
+use Rattle.radix.specs.Shape.{Shape, nil, node, ownEntry, entriesBelow, cut, common, prefixOf}
 
 abbrev pub under : List ℕ → List Entry → List Entry
 under l [] = []
@@ -36,33 +36,33 @@ pub under-own : (l k : List ℕ) (v : Option ℕ) → ownEntry (l ++ k) v ≡ un
 under-own l k none = refl
 under-own l k (some v) = refl
 
-pub entries-under : (a b : List ℕ) (s : Shape) → entriesIn (a ++ b) s ≡ under a (entriesIn b s)
-unfolding entriesIn
+pub entries-under : (a b : List ℕ) (s : Shape) → entriesBelow (a ++ b) s ≡ under a (entriesBelow b s)
+unfolding entriesBelow
 entries-under a b nil = refl
 entries-under a b (node l v below later) =
     simp (append-assoc, under-append, under-own, entries-under a (b ++ l) below, entries-under a b later)
 
 -- the remainders at a node
 abbrev pub remainders : Option ℕ → Shape → List Entry
-remainders v below = ownEntry [] v ++ entriesIn [] below
+remainders v below = ownEntry [] v ++ entriesBelow [] below
 
-pub entries-before : (a : List ℕ) (s : Shape) → entriesIn a s ≡ under a (entriesIn [] s)
-entries-before a s = ap (λ (b : List ℕ). entriesIn b s) (sym (append-nil a)) ∙ entries-under a [] s
+pub entries-before : (a : List ℕ) (s : Shape) → entriesBelow a s ≡ under a (entriesBelow [] s)
+entries-before a s = ap (λ (b : List ℕ). entriesBelow b s) (sym (append-nil a)) ∙ entries-under a [] s
 
-pub remainders-under : (l : List ℕ) (v : Option ℕ) (below : Shape) → ownEntry l v ++ entriesIn l below ≡ under l (remainders v below)
+pub remainders-under : (l : List ℕ) (v : Option ℕ) (below : Shape) → ownEntry l v ++ entriesBelow l below ≡ under l (remainders v below)
 remainders-under l v below =
     ap₂ _++_ (ap (λ (k : List ℕ). ownEntry k v) (sym (append-nil l)) ∙ under-own l [] v) (entries-before l below)
-    ∙ sym (under-append l (ownEntry [] v) (entriesIn [] below))
+    ∙ sym (under-append l (ownEntry [] v) (entriesBelow [] below))
 
 pub entries-node : (a l : List ℕ) (v : Option ℕ) (below later : Shape)
-    → entriesIn a (node l v below later) ≡ under (a ++ l) (remainders v below) ++ entriesIn a later
-unfolding entriesIn
+    → entriesBelow a (node l v below later) ≡ under (a ++ l) (remainders v below) ++ entriesBelow a later
+unfolding entriesBelow
 entries-node a l v below later =
-    sym (append-assoc (ownEntry (a ++ l) v) (entriesIn (a ++ l) below) (entriesIn a later))
-    ∙ ap (λ (z : List Entry). z ++ entriesIn a later) (remainders-under (a ++ l) v below)
+    sym (append-assoc (ownEntry (a ++ l) v) (entriesBelow (a ++ l) below) (entriesBelow a later))
+    ∙ ap (λ (z : List Entry). z ++ entriesBelow a later) (remainders-under (a ++ l) v below)
 
-pub entries-only : (l : List ℕ) (v : Option ℕ) (below : Shape) → entriesIn [] (node l v below nil) ≡ under l (remainders v below)
-unfolding entriesIn
+pub entries-only : (l : List ℕ) (v : Option ℕ) (below : Shape) → entriesBelow [] (node l v below nil) ≡ under l (remainders v below)
+unfolding entriesBelow
 entries-only l v below = entries-node [] l v below nil ∙ append-nil (under l (remainders v below))
 
 pub cut-under : (l : List ℕ) (es : List Entry) → cut (length l) (under l es) ≡ es

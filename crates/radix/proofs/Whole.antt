@@ -13,7 +13,7 @@ use Rattle.octets.specs.Maybe.{need, _>>_, _>>=_}
 use Rattle.octets.specs.Compare.{same}
 use Rattle.octets.proofs.Laws.{both-true, same-refl, same-true}
 use Rattle.keys.specs.Entries.{Entry, entry, isKey, allFit, isMap}
-use Rattle.radix.specs.Shape.{Shape, nil, node, ownEntry, entriesIn, shape}
+use Rattle.radix.specs.Shape.{Shape, nil, node, ownEntry, entriesBelow, shape}
 use Rattle.radix.specs.Canon.{canonical}
 use Rattle.radix.specs.Record.{sameValue, sameShape, heldIn}
 use Rattle.radix.specs.Gathering.{withOwn, gathered}
@@ -138,8 +138,8 @@ got-own k (some v) old all h e =
       room = λ r. let m : length old < 64 = ltb-true (length old) 64 (q .0) in omega (arith, ap length s, length-append old (entry k v ∷ []));
     }
 
-got-all : (before : List ℕ) (s : Shape) (old all : List Entry) → gathered before s old ≡ some all → Got old (entriesIn before s) all
-unfolding gathered entriesIn
+got-all : (before : List ℕ) (s : Shape) (old all : List Entry) → gathered before s old ≡ some all → Got old (entriesBelow before s) all
+unfolding gathered entriesBelow
 got-all before nil old all e = got-none old all e
 got-all before (node l v below later) old all e =
     let n = need-some (leb (length before + length l) 16) _ e in
@@ -151,9 +151,9 @@ got-all before (node l v below later) old all e =
 
 -- the other way round: what keeps the rules and fits is gathered whole
 pub record Fits (before : List ℕ) (s : Shape) (old : List Entry) : Type 0 where
-  pub short : Short 16 (entriesIn before s)
-  pub vals : Vals (entriesIn before s)
-  pub room : length old + length (entriesIn before s) ≤ 64
+  pub short : Short 16 (entriesBelow before s)
+  pub vals : Vals (entriesBelow before s)
+  pub room : length old + length (entriesBelow before s) ≤ 64
 
 own-all : (k : List ℕ) (v : Option ℕ) (old : List Entry) → Vals (ownEntry k v) → length old + length (ownEntry k v) ≤ 64
     → withOwn k v old ≡ some (old ++ ownEntry k v)
@@ -170,13 +170,13 @@ module _ (before l : List ℕ) (v : Option ℕ) (below later : Shape) (old : Lis
   own-part = ownEntry (before ++ l) v
 
   below-part : List Entry
-  below-part = entriesIn (before ++ l) below
+  below-part = entriesBelow (before ++ l) below
 
   later-part : List Entry
-  later-part = entriesIn before later
+  later-part = entriesBelow before later
 
-  parts : entriesIn before (node l v below later) ≡ own-part ++ (below-part ++ later-part)
-  unfolding entriesIn own-part below-part later-part
+  parts : entriesBelow before (node l v below later) ≡ own-part ++ (below-part ++ later-part)
+  unfolding entriesBelow own-part below-part later-part
   parts = refl
 
   short-parts : Short 16 (own-part ++ (below-part ++ later-part))
@@ -218,10 +218,10 @@ module _ (before l : List ℕ) (v : Option ℕ) (below later : Shape) (old : Lis
       }
 
   node-all : Some (remainders v below)
-      → ((o : List Entry) → Fits (before ++ l) below o → gathered (before ++ l) below o ≡ some (o ++ entriesIn (before ++ l) below))
-      → ((o : List Entry) → Fits before later o → gathered before later o ≡ some (o ++ entriesIn before later))
-      → gathered before (node l v below later) old ≡ some (old ++ entriesIn before (node l v below later))
-  unfolding gathered entriesIn own-part below-part later-part
+      → ((o : List Entry) → Fits (before ++ l) below o → gathered (before ++ l) below o ≡ some (o ++ entriesBelow (before ++ l) below))
+      → ((o : List Entry) → Fits before later o → gathered before later o ≡ some (o ++ entriesBelow before later))
+      → gathered before (node l v below later) old ≡ some (old ++ entriesBelow before (node l v below later))
+  unfolding gathered entriesBelow own-part below-part later-part
   node-all s b m =
       let d : length before + length l ≤ 16 = omega (arith, depth s, length-append before l) in
       let w : withOwn (before ++ l) v old ≡ some (old ++ own-part) = own-all (before ++ l) v old (vals-left own-part (below-part ++ later-part) vals-parts) (omega (arith, sizes)) in
@@ -229,8 +229,8 @@ module _ (before l : List ℕ) (v : Option ℕ) (below later : Shape) (old : Lis
       (ap some (append-assoc (old ++ own-part) below-part later-part ∙ append-assoc old own-part (below-part ++ later-part)))
 
 gather-all : {first : Bool} {least : ℕ} {s : Shape} → Rules first least s → (before : List ℕ) (old : List Entry) → Fits before s old
-    → gathered before s old ≡ some (old ++ entriesIn before s)
-unfolding gathered entriesIn
+    → gathered before s old ≡ some (old ++ entriesBelow before s)
+unfolding gathered entriesBelow
 gather-all leaf before old f = ap some (sym (append-nil old))
 gather-all (only {a = a} {l = l} {v = v} {below = below} e b) before old f =
     node-all before (a ∷ l) v below nil old f (held-entries v (end-held v below e) b) (gather-all b (before ++ (a ∷ l))) (λ o g. ap some (sym (append-nil o)))
@@ -240,7 +240,7 @@ gather-all (oneOf {a = a} {v = v} {below = below} {later = later} n k e b m) bef
 -- the test of a record's tree
 module _ (t : Shape) where
   es : List Entry
-  es = entriesIn [] t
+  es = entriesBelow [] t
 
   held : (r : List Entry) → canonical t ≡ true → gathered [] t [] ≡ some r → some r ≡ heldIn t
   unfolding es heldIn
@@ -295,7 +295,7 @@ shape-held es m = sym (is-gathered (shape es) es (shape-canonical es m) (shape-g
 pub held-map : (t : Shape) (es : List Entry) → heldIn t ≡ some es → (isMap es ≡ true) × (t ≡ shape es)
 unfolding heldIn
 held-map t es h =
-    let n = need-some (both (isMap (entriesIn [] t)) (sameShape t (shape (entriesIn [] t)))) (some (entriesIn [] t)) h in
-    let p = both-true (isMap (entriesIn [] t)) _ (n .0) in
-    let e : es ≡ entriesIn [] t = some-is (n .1) in
-    (ap isMap e ∙ p .0, shape-true t (shape (entriesIn [] t)) (p .1) ∙ ap shape (sym e))
+    let n = need-some (both (isMap (entriesBelow [] t)) (sameShape t (shape (entriesBelow [] t)))) (some (entriesBelow [] t)) h in
+    let p = both-true (isMap (entriesBelow [] t)) _ (n .0) in
+    let e : es ≡ entriesBelow [] t = some-is (n .1) in
+    (ap isMap e ∙ p .0, shape-true t (shape (entriesBelow [] t)) (p .1) ∙ ap shape (sym e))

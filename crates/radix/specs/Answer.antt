@@ -6,14 +6,14 @@ use lib.ListN.{length}
 use mathlib.Core.List.{List}
 use Rattle.keys.specs.Entries.{Entry}
 use Rattle.keys.specs.Table.{Columns, rowsFrom}
-use Rattle.radix.specs.declared.Found.{Found}
-use Rattle.radix.specs.declared.Found.the-variants.{Value, Nothing}
+use Rattle.radix.specs.declared.Lookup.{Lookup}
+use Rattle.radix.specs.declared.Lookup.the-variants.{Value, Nothing}
 use Rattle.radix.specs.declared.Gathered.{Gathered}
 use Rattle.radix.specs.declared.Gathered.the-variants.{Rows, TooMany}
 
-abbrev pub foundOf : Found → Option ℕ
-foundOf Nothing = none
-foundOf (Value v) = some v
+abbrev pub lookupOf : Lookup → Option ℕ
+lookupOf Nothing = none
+lookupOf (Value v) = some v
 
 -- rows gathered into columns
 abbrev pub rowsOf : Gathered → Columns → Option (List Entry)

@@ -99,10 +99,10 @@ ownEntry k none = []
 ownEntry k (some v) = entry k v ∷ []
 
 -- the entries below a node that the bytes `before` lead to, in order
-unfoldable pub entriesIn : List ℕ → Shape → List Entry
-entriesIn before nil = []
-entriesIn before (node label v below later) =
-    ownEntry (before ++ label) v ++ (entriesIn (before ++ label) below ++ entriesIn before later)
+unfoldable pub entriesBelow : List ℕ → Shape → List Entry
+entriesBelow before nil = []
+entriesBelow before (node label v below later) =
+    ownEntry (before ++ label) v ++ (entriesBelow (before ++ label) below ++ entriesBelow before later)
 
 unfoldable pub startsWith : List ℕ → List ℕ → Bool
 startsWith [] k = true

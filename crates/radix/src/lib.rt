@@ -19,7 +19,7 @@ pub struct Index {
 }
 
 // The value of a key, if it is held.
-pub enum Found {
+pub enum Lookup {
     Value(u32),
     Nothing,
 }

@@ -6,10 +6,10 @@ use native.Mathlib.Omega.{arith}
 use lib.ListN.{length, length-append}
 use Rattle.octets.specs.Bytes.{Bytes, le, leValue}
 use Rattle.octets.specs.Place.{area, put}
-use Rattle.octets.proofs.Laws.{length-le, value-le, le-value, value-le-lt, length-area, bytes-area, bytes-append, bytes-le, area-add, area-all, area-left, area-right, area-append-right, area-after, put-append, put-all, put-area, length-put}
+use Rattle.octets.proofs.Laws.{length-le, value-le, le-value, length-area, bytes-area, bytes-append, bytes-le, area-add, area-all, area-left, area-right, area-append-right, put-append, put-all}
 use Rattle.radix.specs.declared.Index.{Index}
-use Rattle.radix_bytes.specs.Bytes.{wordBytes, wordsAt, bytesOf, recordFrom, Fit, Typed}
-use Rattle.radix_bytes.proofs.Words.{length-words, length-words-at, words-right, words-back, words-again, words-fit, bytes-words}
+use Rattle.radix_bytes.specs.Bytes.{wordBytes, wordsAt, bytesOf, recordFrom, Fit, recordSize, childrenAt, valuesAt, labelsAt}
+use Rattle.radix_bytes.proofs.Words.{length-words, words-right, words-back, words-again, bytes-words}
 pub use Rattle.radix_bytes.proofs.Places.{len-of, key-of, child-of, next-of, value-of, label-of, label-in, label-size}
 
 -- what stands after a part of n bytes
@@ -59,22 +59,17 @@ record-again x r l k c fc n fn v fv b =
     (words-after 4 a t2 2 1536 256 la ∙ words-after 4 (x .len) t3 256 1280 256 l ∙ words-after 4 (x .key) t4 256 1024 256 k ∙ words-after 4 wc t5 512 512 256 lc ∙ words-after 4 wn t6 512 0 256 ln ∙ words-first 4 256 (x .val) (x .label) v fv)
     (after a t2 2 2560 4096 la ∙ after (x .len) t3 256 2304 4096 l ∙ after (x .key) t4 256 2048 4096 k ∙ after wc t5 512 1536 4096 lc ∙ after wn t6 512 1024 4096 ln ∙ area-right wv (x .label) 1024 4096 lv b)
 
-pub record-back : (x : Index) → Typed x → recordFrom (bytesOf x) ≡ x
-record-back x t =
-    record-again x (t .root) (t .len) (t .key) (t .child) (t .child-fit) (t .next) (t .next-fit) (t .val) (t .val-fit) (t .label)
-
-pub length-bytes : (x : Index) → Typed x → length (bytesOf x) ≡ 6658
+-- how many bytes there are, each of them a byte
+pub length-bytes : (x : Index) → length (x .len) ≡ 256 → length (x .key) ≡ 256 → length (x .child) ≡ 256 → length (x .next) ≡ 256 → length (x .val) ≡ 256 → length (x .label) ≡ 4096
+    → length (bytesOf x) ≡ 6658
 unfolding bytesOf
-length-bytes x t =
-    let c = length-words 2 (x .child) in
-    let n = length-words 2 (x .next) in
-    let v = length-words 4 (x .val) in
-    simp (length-append, length-le) (omega (arith, t .len, t .key, t .child, t .next, t .val, t .label, c, n, v))
+length-bytes x l k c n v b =
+    simp (length-append, length-le) (omega (arith, l, k, b, wide-words 2 256 512 (x .child) c refl, wide-words 2 256 512 (x .next) n refl, wide-words 4 256 1024 (x .val) v refl))
 
-pub bytes-bytes : (x : Index) → Typed x → Bytes (bytesOf x)
+pub bytes-bytes : (x : Index) → Bytes (x .len) → Bytes (x .key) → Bytes (x .label) → Bytes (bytesOf x)
 unfolding bytesOf
-bytes-bytes x t =
-    bytes-append (bytes-le 2 (x .root)) (bytes-append (t .len-bytes) (bytes-append (t .key-bytes) (bytes-append (bytes-words 2 (x .child)) (bytes-append (bytes-words 2 (x .next)) (bytes-append (bytes-words 4 (x .val)) (t .label-bytes))))))
+bytes-bytes x l k b =
+    bytes-append (bytes-le 2 (x .root)) (bytes-append l (bytes-append k (bytes-append (bytes-words 2 (x .child)) (bytes-append (bytes-words 2 (x .next)) (bytes-append (bytes-words 4 (x .val)) b)))))
 
 -- bytes written back of what was read of them
 pub bytes-back : (s : List ℕ) → Bytes s → length s ≡ 6658 → bytesOf (recordFrom s) ≡ s
@@ -92,25 +87,6 @@ bytes-back s h l =
     ∙ ap (λ (i : ℕ). area 0 i s) (sym l)
     ∙ area-all s
 
-pub record-typed : (s : List ℕ) → Bytes s → length s ≡ 6658 → Typed (recordFrom s)
-unfolding recordFrom
-record-typed s h l =
-    record {
-      root = rw (length-area 0 2 s (omega arith)) at (value-le-lt (area 0 2 s) (bytes-area 0 2 h));
-      len = length-area 2 256 s (omega arith);
-      len-bytes = bytes-area 2 256 h;
-      key = length-area 258 256 s (omega arith);
-      key-bytes = bytes-area 258 256 h;
-      child = length-words-at 2 s 514 256;
-      child-fit = words-fit 2 s 514 256 h (omega arith);
-      next = length-words-at 2 s 1026 256;
-      next-fit = words-fit 2 s 1026 256 h (omega arith);
-      val = length-words-at 4 s 1538 256;
-      val-fit = words-fit 4 s 1538 256 h (omega arith);
-      label = length-area 2562 4096 s (omega arith);
-      label-bytes = bytes-area 2562 4096 h;
-    }
-
 pub label-bytes : (s : List ℕ) → Bytes s → Bytes (recordFrom s .label)
 unfolding recordFrom
 label-bytes s h = bytes-area 2562 4096 h
@@ -122,38 +98,27 @@ put-next s at a p b e h = ap (λ (i : ℕ). put (put s at a) i b) (sym e) ∙ pu
 pub two-written : (s o q : List ℕ) (at : ℕ) (a : List ℕ) (p : ℕ) (b : List ℕ) → at + length a ≡ p → at ≤ length s → o ≡ put s at a → q ≡ put o p b → q ≡ put s at (a ++ b)
 two-written s o q at a p b e h f g = g ∙ ap (λ (y : List ℕ). put y p b) f ∙ put-next s at a p b e h
 
--- the parts before the labels written one after the other
-pub fields-written : (x : Index) (s o p q : List ℕ) → length s ≡ 6658 → length (x .len) ≡ 256 → length (x .key) ≡ 256 → length (x .child) ≡ 256 → length (x .next) ≡ 256 → length (x .val) ≡ 256 → x .label ≡ area 2562 4096 s
-    → o ≡ put s 0 (le 2 (x .root) ++ (x .len ++ x .key)) → p ≡ put o 514 (wordBytes 2 (x .child) ++ wordBytes 2 (x .next)) → q ≡ put p 1538 (wordBytes 4 (x .val)) → q ≡ bytesOf x
+-- the parts written one after the other
+pub parts-written : (x : Index) (s o p q r : List ℕ) → length s ≡ recordSize → length (x .len) ≡ 256 → length (x .key) ≡ 256 → length (x .child) ≡ 256 → length (x .next) ≡ 256 → length (x .val) ≡ 256 → length (x .label) ≡ 4096
+    → o ≡ put s 0 (le 2 (x .root) ++ (x .len ++ x .key)) → p ≡ put o childrenAt (wordBytes 2 (x .child) ++ wordBytes 2 (x .next)) → q ≡ put p valuesAt (wordBytes 4 (x .val)) → r ≡ put q labelsAt (x .label) → r ≡ bytesOf x
 unfolding bytesOf
-fields-written x s o p q z l k c n v b eo ep eq =
+parts-written x s o p q r z l k c n v b eo ep eq er =
     let a : List ℕ = le 2 (x .root) in
     let wc : List ℕ = wordBytes 2 (x .child) in
     let wn : List ℕ = wordBytes 2 (x .next) in
     let wv : List ℕ = wordBytes 4 (x .val) in
+    let h : List ℕ = a ++ (x .len ++ x .key) in
+    let t : List ℕ = h ++ (wc ++ wn) in
+    let u : List ℕ = t ++ wv in
     let la : length a ≡ 2 = length-le 2 (x .root) in
     let lc : length wc ≡ 512 = wide-words 2 256 512 (x .child) c refl in
     let ln : length wn ≡ 512 = wide-words 2 256 512 (x .next) n refl in
     let lv : length wv ≡ 1024 = wide-words 4 256 1024 (x .val) v refl in
-    let lb : length (x .label) ≡ 4096 = ap length b ∙ length-area 2562 4096 s (omega arith) in
-    let lh : length (a ++ (x .len ++ x .key)) ≡ 514 = simp length-append (omega (arith, la, l, k)) in
-    let lt : length (wc ++ wn) ≡ 1024 = simp length-append (omega (arith, lc, ln)) in
-    let zo : length o ≡ 6658 = ap length eo ∙ length-put s 0 (a ++ (x .len ++ x .key)) (omega arith) ∙ z in
-    let zp : length p ≡ 6658 = ap length ep ∙ length-put o 514 (wc ++ wn) (omega arith) ∙ zo in
-    let zq : length q ≡ 6658 = ap length eq ∙ length-put p 1538 wv (omega arith) ∙ zp in
-    let stays : area 2562 4096 q ≡ x .label =
-    ap (area 2562 4096) eq ∙ area-after p 1538 wv (omega arith) 2562 4096 (omega arith)
-    ∙ ap (area 2562 4096) ep ∙ area-after o 514 (wc ++ wn) (omega arith) 2562 4096 (omega arith)
-    ∙ ap (area 2562 4096) eo ∙ area-after s 0 (a ++ (x .len ++ x .key)) (omega arith) 2562 4096 (omega arith)
-    ∙ sym b in
-    let j : 1538 + length wv ≡ 2562 = omega arith in
-    let g : length ((a ++ (x .len ++ x .key)) ++ (wc ++ wn)) ≡ 1538 = simp length-append (omega (arith, la, l, k, lc, ln)) in
-    let h : length (((a ++ (x .len ++ x .key)) ++ (wc ++ wn)) ++ (wv ++ x .label)) ≡ 6658 = simp length-append (omega (arith, la, l, k, lc, ln, lv, lb)) in
-    sym (put-area q 2562 4096 (omega arith))
-    ∙ ap₂ (λ (i : ℕ) (y : List ℕ). put q i y) (sym j) stays
-    ∙ ap (λ (y : List ℕ). put y (1538 + length wv) (x .label)) eq
-    ∙ put-append p 1538 wv (x .label) (omega arith)
-    ∙ ap (λ (y : List ℕ). put y 1538 (wv ++ x .label)) (ep ∙ ap (λ (y : List ℕ). put y 514 (wc ++ wn)) eo ∙ put-next s 0 (a ++ (x .len ++ x .key)) 514 (wc ++ wn) (omega (arith, lh)) (omega arith))
-    ∙ put-next s 0 ((a ++ (x .len ++ x .key)) ++ (wc ++ wn)) 1538 (wv ++ x .label) (omega (arith, g)) (omega arith)
-    ∙ put-all s (((a ++ (x .len ++ x .key)) ++ (wc ++ wn)) ++ (wv ++ x .label)) (h ∙ sym z)
+    let lh : length h ≡ 514 = simp length-append (omega (arith, la, l, k)) in
+    let lt : length t ≡ 1538 = length-append h (wc ++ wn) ∙ (simp length-append (omega (arith, lh, lc, ln))) in
+    let lu : length u ≡ 2562 = length-append t wv ∙ (omega (arith, lt, lv)) in
+    let lz : length (u ++ x .label) ≡ length s = length-append u (x .label) ∙ (omega (arith, lu, b, z)) in
+    two-written s q r 0 u labelsAt (x .label) (omega (arith, lu)) (omega arith)
+    (two-written s p q 0 t valuesAt wv (omega (arith, lt)) (omega arith) (two-written s o p 0 h childrenAt (wc ++ wn) (omega (arith, lh)) (omega arith) eo ep) eq) er
+    ∙ put-all s (u ++ x .label) lz
     ∙ simp append-assoc

@@ -5,13 +5,30 @@
 --
 -- Each undoes the other on records whose arrays are as long as that, with elements of their types: proofs/Laws. Assumes nothing.
 use mathlib.Core.List.{List, [], _∷_, _++_}
-use mathlib.Core.Path.{_≡_}
 use Prim.Native.Nat.{ℕ, zero, suc, _+_, _*_, _^_, _<_}
-use lib.ListN.{length}
-use Rattle.octets.specs.Bytes.{Bytes, le, leValue}
+use Rattle.octets.specs.Bytes.{le, leValue}
 use Rattle.octets.specs.Place.{area}
 use Rattle.radix.specs.declared.Index.{Index}
 use Rattle.radix.specs.Record.{Nodes, nodesOf}
+
+-- where each field begins, but the root's place
+abbrev pub lensAt : ℕ
+lensAt = 2
+
+abbrev pub keysAt : ℕ
+keysAt = 258
+
+abbrev pub childrenAt : ℕ
+childrenAt = 514
+
+abbrev pub nextsAt : ℕ
+nextsAt = 1026
+
+abbrev pub valuesAt : ℕ
+valuesAt = 1538
+
+abbrev pub labelsAt : ℕ
+labelsAt = 2562
 
 abbrev pub recordSize : ℕ
 recordSize = 6658
@@ -35,12 +52,12 @@ unfoldable pub recordFrom : List ℕ → Index
 recordFrom s =
     record {
       root = leValue (area 0 2 s);
-      len = area 2 256 s;
-      key = area 258 256 s;
-      child = wordsAt 2 s 514 256;
-      next = wordsAt 2 s 1026 256;
-      val = wordsAt 4 s 1538 256;
-      label = area 2562 4096 s;
+      len = area lensAt 256 s;
+      key = area keysAt 256 s;
+      child = wordsAt 2 s childrenAt 256;
+      next = wordsAt 2 s nextsAt 256;
+      val = wordsAt 4 s valuesAt 256;
+      label = area labelsAt 4096 s;
     }
 
 -- the pool in it
@@ -51,19 +68,3 @@ poolIn s = nodesOf (recordFrom s)
 abbrev pub Fit : ℕ → List ℕ → Type 0
 Fit w [] = Unit {0}
 Fit w (v ∷ vs) = (v < 2 ^ (8 * w)) × Fit w vs
-
--- what the types of the fields say
-pub record Typed (x : Index) : Type 0 where
-  pub root : x .root < 2 ^ 16
-  pub len : length (x .len) ≡ 256
-  pub len-bytes : Bytes (x .len)
-  pub key : length (x .key) ≡ 256
-  pub key-bytes : Bytes (x .key)
-  pub child : length (x .child) ≡ 256
-  pub child-fit : Fit 2 (x .child)
-  pub next : length (x .next) ≡ 256
-  pub next-fit : Fit 2 (x .next)
-  pub val : length (x .val) ≡ 256
-  pub val-fit : Fit 4 (x .val)
-  pub label : length (x .label) ≡ 4096
-  pub label-bytes : Bytes (x .label)

@@ -6,13 +6,19 @@ ghost use mathlib.Core.List.{_++_};
 ghost use Prim.Native.Nat.{_+_, _^_, _≤_, _<_};
 ghost use lib.ListN.{length};
 ghost use Rattle.octets.specs.Bytes.{le};
-ghost use Rattle.octets.specs.Place.{area, put};
+ghost use Rattle.octets.specs.Place.{put};
 ghost use Rattle.keys.specs.Entries.{isMap};
 ghost use Rattle.keys.specs.Table.{tabled};
-ghost use Rattle.radix.specs.Record.{lent};
-ghost use Rattle.radix.specs.Layout.{recordOf, rooted};
-ghost use Rattle.radix_bytes.specs.Bytes.{recordSize, wordBytes, bytesOf, recordFrom, Fit};
+ghost use Rattle.radix.specs.Layout.{recordOf};
+ghost use Rattle.radix_bytes.specs.Bytes.{recordSize, childrenAt, wordBytes, bytesOf, recordFrom, Fit};
+use crate::CHILDREN_AT;
+use crate::KEYS_AT;
+use crate::LABELS_AT;
+use crate::LENS_AT;
+use crate::NEXTS_AT;
+use crate::VALUES_AT;
 use keys::Table;
+use radix::Index;
 
 fn wide_link(x: u16) -> u64
     ensures { λ r. ⌜ (r ≡ x) × (r < 2 ^ 16) ⌝ }
@@ -53,33 +59,27 @@ fn write_head<'a>(root: u16, len: &'a [u8], key: &'a [u8], out: &mut [u8])
     ensures { λ _. ⌜ (now (out .exit) ≡ put (now (out .entry)) 0 (le 2 root ++ (now (len .entry) ++ now (key .entry)))) × (root < 2 ^ 16) ⌝ }
 {
     octets::write_le(out, 0, 2, wide_link(root));
-    octets::copy_in(out, 2, len);
-    octets::copy_in(out, 258, key);
+    octets::copy_in(out, LENS_AT, len);
+    octets::copy_in(out, KEYS_AT, key);
 }
 
 fn write_tree<'a>(child: &'a [u16], next: &'a [u16], out: &mut [u8])
     requires { ⌜ (length (now child) ≡ 256) × ((length (now next) ≡ 256) × (length (now out) ≡ recordSize)) ⌝ }
-    ensures { λ _. ⌜ (now (out .exit) ≡ put (now (out .entry)) 514 (wordBytes 2 (now (child .entry)) ++ wordBytes 2 (now (next .entry)))) × (Fit 2 (now (child .entry)) × Fit 2 (now (next .entry))) ⌝ }
+    ensures { λ _. ⌜ (now (out .exit) ≡ put (now (out .entry)) childrenAt (wordBytes 2 (now (child .entry)) ++ wordBytes 2 (now (next .entry)))) × (Fit 2 (now (child .entry)) × Fit 2 (now (next .entry))) ⌝ }
 {
-    write_links(out, 514, child);
-    write_links(out, 1026, next);
+    write_links(out, CHILDREN_AT, child);
+    write_links(out, NEXTS_AT, next);
 }
 
-// The fields but the labels, which stand in their place already. The root is at place 0; what is written reads back as the record.
-fn write_fields<'a>(
-    len: &'a [u8; 256],
-    key: &'a [u8; 256],
-    child: &'a [u16; 256],
-    next: &'a [u16; 256],
-    val: &'a [u32; 256],
-    out: &mut [u8],
-)
+// A record, which is then read back.
+fn write_record(x: Index, out: &mut [u8])
     requires { ⌜ length (now out) ≡ recordSize ⌝ }
-    ensures { λ _. ⌜ (now (out .exit) ≡ bytesOf (rooted (lent (now (len .entry)) (now (key .entry)) (now (child .entry)) (now (next .entry)) (now (val .entry)) (area 2562 4096 (now (out .entry)))))) × (recordFrom (now (out .exit)) ≡ rooted (lent (now (len .entry)) (now (key .entry)) (now (child .entry)) (now (next .entry)) (now (val .entry)) (area 2562 4096 (now (out .entry))))) ⌝ }
+    ensures { λ _. ⌜ (now (out .exit) ≡ bytesOf x) × (recordFrom (now (out .exit)) ≡ x) ⌝ }
 {
-    write_head(0, len, key, out);
-    write_tree(child, next, out);
-    write_values(out, 1538, val);
+    write_head(x.root, &x.len, &x.key, out);
+    write_tree(&x.child, &x.next, out);
+    write_values(out, VALUES_AT, &x.val);
+    octets::copy_in(out, LABELS_AT, &x.label);
 }
 
 // The record of a table of a map.
@@ -87,20 +87,5 @@ pub fn build(t: Table, out: &mut [u8])
     requires { ⌜ (isMap (tabled t) ≡ true) × (length (now out) ≡ recordSize) ⌝ }
     ensures { λ _. ⌜ (now (out .exit) ≡ bytesOf (recordOf (tabled t))) × (recordFrom (now (out .exit)) ≡ recordOf (tabled t)) ⌝ }
 {
-    let mut len = [0u8; 256];
-    let mut key = [0u8; 256];
-    let mut child = [0u16; 256];
-    let mut next = [0u16; 256];
-    let mut val = [0u32; 256];
-    octets::zero(out, 2562, 4096);
-    radix::build(
-        t,
-        &mut len,
-        &mut key,
-        &mut child,
-        &mut next,
-        &mut val,
-        &mut out[2562..6658],
-    );
-    write_fields(&len, &key, &child, &next, &val, out);
+    write_record(radix::build(t), out);
 }

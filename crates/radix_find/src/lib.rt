@@ -6,10 +6,11 @@ ghost use lib.ListN.{length, drop};
 ghost use Rattle.octets.specs.Place.{area};
 ghost use Rattle.radix.specs.Shape.{startsWith};
 ghost use Rattle.radix.specs.Record.{valueOf, treeAt};
-ghost use Rattle.radix.specs.Answer.{foundOf};
+ghost use Rattle.radix.specs.Answer.{lookupOf};
 ghost use Rattle.radix.specs.Walk.{findIn};
 ghost use Rattle.radix_bytes.specs.Bytes.{recordSize, poolIn};
-use radix::Found;
+use radix::Lookup;
+use radix_bytes::LABELS_AT;
 
 // Whether the n bytes of a label start what is left of the key from i on.
 fn starts(s: &[u8], at: usize, n: usize, k: &[u8], i: usize) -> bool
@@ -30,20 +31,20 @@ fn starts(s: &[u8], at: usize, n: usize, k: &[u8], i: usize) -> bool
 }
 
 // The value of a key node.
-fn own(s: &[u8], p: usize) -> Found
+fn own(s: &[u8], p: usize) -> Lookup
     requires { ⌜ (length (now s) ≡ recordSize) × (p < 256) ⌝ }
-    ensures { λ r. ⌜ foundOf r ≡ valueOf (poolIn (now (s .entry))) p ⌝ }
+    ensures { λ r. ⌜ lookupOf r ≡ valueOf (poolIn (now (s .entry))) p ⌝ }
 {
     if radix_bytes::key_at(s, p) == 0 {
-        return Found::Nothing;
+        return Lookup::Nothing;
     }
-    Found::Value(radix_bytes::value_at(s, p))
+    Lookup::Value(radix_bytes::value_at(s, p))
 }
 
 // From the link `first`, and down at most 256 nodes.
-pub fn find_from(s: &[u8], first: usize, k: &[u8]) -> Found
+pub fn find_from(s: &[u8], first: usize, k: &[u8]) -> Lookup
     requires { ⌜ length (now s) ≡ recordSize ⌝ }
-    ensures { λ r. ⌜ foundOf r ≡ findIn (treeAt 256 (poolIn (now (s .entry))) first) (now (k .entry)) ⌝ }
+    ensures { λ r. ⌜ lookupOf r ≡ findIn (treeAt 256 (poolIn (now (s .entry))) first) (now (k .entry)) ⌝ }
 {
     let mut at = first;
     let mut i = 0;
@@ -51,14 +52,14 @@ pub fn find_from(s: &[u8], first: usize, k: &[u8]) -> Found
     while 0 < left {
         left -= 1;
         if at == 0 {
-            return Found::Nothing;
+            return Lookup::Nothing;
         }
         if 256 < at {
-            return Found::Nothing;
+            return Lookup::Nothing;
         }
         let p = at - 1;
         let n = radix_bytes::label_len(s, p);
-        if starts(s, 2562 + 16 * p, n, k, i) {
+        if starts(s, LABELS_AT + 16 * p, n, k, i) {
             i += n;
             if k.len() <= i {
                 return own(s, p);
@@ -68,5 +69,5 @@ pub fn find_from(s: &[u8], first: usize, k: &[u8]) -> Found
             at = radix_bytes::next_at(s, p);
         }
     }
-    Found::Nothing
+    Lookup::Nothing
 }

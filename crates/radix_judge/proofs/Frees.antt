@@ -15,7 +15,7 @@ use Rattle.octets.specs.Compare.{allZero}
 use Rattle.octets.proofs.Laws.{pick-same, both-of, both-true, zero-all, all-zero, value-le-zeros, le-value, bytes-area, length-area, getD-area, area-area, area-zeros}
 use Rattle.radix.proofs.Laws.{zero-part as part-is}
 use Rattle.radix.specs.Record.{Nodes, isFree}
-use Rattle.radix_bytes.specs.Bytes.{poolIn}
+use Rattle.radix_bytes.specs.Bytes.{childrenAt, keysAt, labelsAt, nextsAt, recordSize, valuesAt, poolIn}
 use Rattle.radix_bytes.proofs.Laws.{len-of, key-of, child-of, next-of, value-of, label-of}
 use Rattle.radix_judge.specs.Visit.{areFree, zeroFrom}
 
@@ -87,72 +87,72 @@ module _ (s : List ℕ) (at n : ℕ) (z : allZero (area at n s) ≡ true) (l : a
   zero-word : (w a : ℕ) → at ≤ a → a + w ≤ at + n → leValue (area a w s) ≡ 0
   zero-word w a h k = ap leValue (zero-part a w h k) ∙ value-le-zeros w
 
-zero-free : (s : List ℕ) (p q : ℕ) → length s ≡ 6658 → zeroFrom s p ≡ true → p ≤ q → q < 256 → isFree (poolIn s) q ≡ true
+zero-free : (s : List ℕ) (p q : ℕ) → length s ≡ recordSize → zeroFrom s p ≡ true → p ≤ q → q < 256 → isFree (poolIn s) q ≡ true
 unfolding zeroFrom isFree
 zero-free s p q l z h k =
-    let a = both-true (allZero (area (2562 + 16 * p) (4096 - 16 * p) s)) _ z in
-    let b = both-true (allZero (area (1538 + 4 * p) (1024 - 4 * p) s)) _ (a .1) in
-    let c = both-true (allZero (area (1026 + 2 * p) (512 - 2 * p) s)) _ (b .1) in
-    let d = both-true (allZero (area (514 + 2 * p) (512 - 2 * p) s)) _ (c .1) in
-    let e = both-true (allZero (area (258 + p) (256 - p) s)) _ (d .1) in
+    let a = both-true (allZero (area (labelsAt + 16 * p) (4096 - 16 * p) s)) _ z in
+    let b = both-true (allZero (area (valuesAt + 4 * p) (1024 - 4 * p) s)) _ (a .1) in
+    let c = both-true (allZero (area (nextsAt + 2 * p) (512 - 2 * p) s)) _ (b .1) in
+    let d = both-true (allZero (area (childrenAt + 2 * p) (512 - 2 * p) s)) _ (c .1) in
+    let e = both-true (allZero (area (keysAt + p) (256 - p) s)) _ (d .1) in
     let g : 16 * q ≡ 16 * q + 0 = omega arith in
     both-of (eq-eqb _ _ (sym (len-of s q k) ∙ zero-byte s (2 + p) (256 - p) (e .1) (omega arith) (2 + q) (omega arith) (omega arith)))
-    (both-of (eq-eqb _ _ (sym (key-of s q k) ∙ zero-byte s (258 + p) (256 - p) (e .0) (omega arith) (258 + q) (omega arith) (omega arith)))
-    (both-of (eq-eqb _ _ (sym (child-of s q k) ∙ zero-word s (514 + 2 * p) (512 - 2 * p) (d .0) (omega arith) 2 (514 + 2 * q) (omega arith) (omega arith)))
-    (both-of (eq-eqb _ _ (sym (next-of s q k) ∙ zero-word s (1026 + 2 * p) (512 - 2 * p) (c .0) (omega arith) 2 (1026 + 2 * q) (omega arith) (omega arith)))
-    (both-of (eq-eqb _ _ (sym (value-of s q k) ∙ zero-word s (1538 + 4 * p) (1024 - 4 * p) (b .0) (omega arith) 4 (1538 + 4 * q) (omega arith) (omega arith)))
-    (ap allZero (ap (λ (i : ℕ). area i 16 (poolIn s .label)) g ∙ label-of s q k 0 16 (omega arith) ∙ zero-part s (2562 + 16 * p) (4096 - 16 * p) (a .0) (omega arith) (2562 + (16 * q + 0)) 16 (omega arith) (omega arith)) ∙ zero-all 16)))))
+    (both-of (eq-eqb _ _ (sym (key-of s q k) ∙ zero-byte s (keysAt + p) (256 - p) (e .0) (omega arith) (keysAt + q) (omega arith) (omega arith)))
+    (both-of (eq-eqb _ _ (sym (child-of s q k) ∙ zero-word s (childrenAt + 2 * p) (512 - 2 * p) (d .0) (omega arith) 2 (childrenAt + 2 * q) (omega arith) (omega arith)))
+    (both-of (eq-eqb _ _ (sym (next-of s q k) ∙ zero-word s (nextsAt + 2 * p) (512 - 2 * p) (c .0) (omega arith) 2 (nextsAt + 2 * q) (omega arith) (omega arith)))
+    (both-of (eq-eqb _ _ (sym (value-of s q k) ∙ zero-word s (valuesAt + 4 * p) (1024 - 4 * p) (b .0) (omega arith) 4 (valuesAt + 4 * q) (omega arith) (omega arith)))
+    (ap allZero (ap (λ (i : ℕ). area i 16 (poolIn s .label)) g ∙ label-of s q k 0 16 (omega arith) ∙ zero-part s (labelsAt + 16 * p) (4096 - 16 * p) (a .0) (omega arith) (labelsAt + (16 * q + 0)) 16 (omega arith) (omega arith)) ∙ zero-all 16)))))
 
-pub rest-zero : (s m : List ℕ) (p : ℕ) → length s ≡ 6658 → p ≤ 256 → zeroFrom s p ≡ true → areFree (poolIn s) m p (256 - p) ≡ true
+pub rest-zero : (s m : List ℕ) (p : ℕ) → length s ≡ recordSize → p ≤ 256 → zeroFrom s p ≡ true → areFree (poolIn s) m p (256 - p) ≡ true
 rest-zero s m p l h z = free-all (poolIn s) m p (256 - p) (λ q a b. zero-free s p q l z a (omega arith))
 
 -- the fields in the order of the test; each is a part of the bytes
 module _ (s : List ℕ) (p : ℕ) (h : p ≤ 256) where
-  module _ (t1 : Bool) (e1 : t1 ≡ allZero (take (6658 - (2562 + 16 * p)) (drop (2562 + 16 * p) s))) where
-    field-1 : t1 ≡ allZero (area (2562 + 16 * p) (4096 - 16 * p) s)
-    field-1 = e1 ∙ part-is s (2562 + 16 * p) (6658 - (2562 + 16 * p)) (4096 - 16 * p) (omega arith)
+  module _ (t1 : Bool) (e1 : t1 ≡ allZero (take (recordSize - (labelsAt + 16 * p)) (drop (labelsAt + 16 * p) s))) where
+    field-1 : t1 ≡ allZero (area (labelsAt + 16 * p) (4096 - 16 * p) s)
+    field-1 = e1 ∙ part-is s (labelsAt + 16 * p) (recordSize - (labelsAt + 16 * p)) (4096 - 16 * p) (omega arith)
 
     pub zero-1 : t1 ≡ false → false ≡ zeroFrom s p
     unfolding zeroFrom
     zero-1 z = rw (← field-1, z)
 
     module _ (y1 : t1 ≡ true) where
-      module _ (t2 : Bool) (e2 : t2 ≡ allZero (take (2562 - (1538 + 4 * p)) (drop (1538 + 4 * p) s))) where
-        field-2 : t2 ≡ allZero (area (1538 + 4 * p) (1024 - 4 * p) s)
-        field-2 = e2 ∙ part-is s (1538 + 4 * p) (2562 - (1538 + 4 * p)) (1024 - 4 * p) (omega arith)
+      module _ (t2 : Bool) (e2 : t2 ≡ allZero (take (labelsAt - (valuesAt + 4 * p)) (drop (valuesAt + 4 * p) s))) where
+        field-2 : t2 ≡ allZero (area (valuesAt + 4 * p) (1024 - 4 * p) s)
+        field-2 = e2 ∙ part-is s (valuesAt + 4 * p) (labelsAt - (valuesAt + 4 * p)) (1024 - 4 * p) (omega arith)
 
         pub zero-2 : t2 ≡ false → false ≡ zeroFrom s p
         unfolding zeroFrom
         zero-2 z = rw (← field-1, y1, ← field-2, z)
 
         module _ (y2 : t2 ≡ true) where
-          module _ (t3 : Bool) (e3 : t3 ≡ allZero (take (1538 - (1026 + 2 * p)) (drop (1026 + 2 * p) s))) where
-            field-3 : t3 ≡ allZero (area (1026 + 2 * p) (512 - 2 * p) s)
-            field-3 = e3 ∙ part-is s (1026 + 2 * p) (1538 - (1026 + 2 * p)) (512 - 2 * p) (omega arith)
+          module _ (t3 : Bool) (e3 : t3 ≡ allZero (take (valuesAt - (nextsAt + 2 * p)) (drop (nextsAt + 2 * p) s))) where
+            field-3 : t3 ≡ allZero (area (nextsAt + 2 * p) (512 - 2 * p) s)
+            field-3 = e3 ∙ part-is s (nextsAt + 2 * p) (valuesAt - (nextsAt + 2 * p)) (512 - 2 * p) (omega arith)
 
             pub zero-3 : t3 ≡ false → false ≡ zeroFrom s p
             unfolding zeroFrom
             zero-3 z = rw (← field-1, y1, ← field-2, y2, ← field-3, z)
 
             module _ (y3 : t3 ≡ true) where
-              module _ (t4 : Bool) (e4 : t4 ≡ allZero (take (1026 - (514 + 2 * p)) (drop (514 + 2 * p) s))) where
-                field-4 : t4 ≡ allZero (area (514 + 2 * p) (512 - 2 * p) s)
-                field-4 = e4 ∙ part-is s (514 + 2 * p) (1026 - (514 + 2 * p)) (512 - 2 * p) (omega arith)
+              module _ (t4 : Bool) (e4 : t4 ≡ allZero (take (nextsAt - (childrenAt + 2 * p)) (drop (childrenAt + 2 * p) s))) where
+                field-4 : t4 ≡ allZero (area (childrenAt + 2 * p) (512 - 2 * p) s)
+                field-4 = e4 ∙ part-is s (childrenAt + 2 * p) (nextsAt - (childrenAt + 2 * p)) (512 - 2 * p) (omega arith)
 
                 pub zero-4 : t4 ≡ false → false ≡ zeroFrom s p
                 unfolding zeroFrom
                 zero-4 z = rw (← field-1, y1, ← field-2, y2, ← field-3, y3, ← field-4, z)
 
                 module _ (y4 : t4 ≡ true) where
-                  module _ (t5 : Bool) (e5 : t5 ≡ allZero (take (514 - (258 + p)) (drop (258 + p) s))) where
-                    field-5 : t5 ≡ allZero (area (258 + p) (256 - p) s)
-                    field-5 = e5 ∙ part-is s (258 + p) (514 - (258 + p)) (256 - p) (omega arith)
+                  module _ (t5 : Bool) (e5 : t5 ≡ allZero (take (childrenAt - (keysAt + p)) (drop (keysAt + p) s))) where
+                    field-5 : t5 ≡ allZero (area (keysAt + p) (256 - p) s)
+                    field-5 = e5 ∙ part-is s (keysAt + p) (childrenAt - (keysAt + p)) (256 - p) (omega arith)
 
                     pub zero-5 : t5 ≡ false → false ≡ zeroFrom s p
                     unfolding zeroFrom
                     zero-5 z = rw (← field-1, y1, ← field-2, y2, ← field-3, y3, ← field-4, y4, ← field-5, z)
 
                     module _ (y5 : t5 ≡ true) where
-                      pub zero-6 : (t6 : Bool) → t6 ≡ allZero (take (258 - (2 + p)) (drop (2 + p) s)) → t6 ≡ zeroFrom s p
+                      pub zero-6 : (t6 : Bool) → t6 ≡ allZero (take (keysAt - (2 + p)) (drop (2 + p) s)) → t6 ≡ zeroFrom s p
                       unfolding zeroFrom
-                      zero-6 t6 e = rw (← field-1, y1, ← field-2, y2, ← field-3, y3, ← field-4, y4, ← field-5, y5) (e ∙ part-is s (2 + p) (258 - (2 + p)) (256 - p) (omega arith))
+                      zero-6 t6 e = rw (← field-1, y1, ← field-2, y2, ← field-3, y3, ← field-4, y4, ← field-5, y5) (e ∙ part-is s (2 + p) (keysAt - (2 + p)) (256 - p) (omega arith))

@@ -16,10 +16,10 @@ use Rattle.octets.specs.Compare.{allZero}
 use Rattle.octets.proofs.Laws.{both-assoc, both-false, all-zero, zero-all, length-area, area-add, area-area, area-none, area-zeros, part-area, bytes-area, value-le-lt}
 use Rattle.keys.specs.Table.{lengthOf}
 use Rattle.radix.specs.Canon.{isNil, isOnly, isOneOf}
-use Rattle.radix.specs.Record.{Nodes, labelOf, valueOf, treeAt, ruleAt, isRoot, isTidy}
-use Rattle.radix_bytes.specs.Bytes.{poolIn}
+use Rattle.radix.specs.Record.{Nodes, labelOf, valueOf, treeAt, isRoot, isTidy}
+use Rattle.radix_bytes.specs.Bytes.{labelsAt, recordSize, poolIn}
 use Rattle.radix_bytes.proofs.Laws.{label-of}
-use Rattle.radix_judge.specs.Visit.{isFit}
+use Rattle.radix_judge.specs.Visit.{ruleAt, isFit}
 
 -- which rule is due
 module _ (first : Bool) (least : ℕ) (x : Nodes) (left p : ℕ) (t : Bool) (e : t ≡ both first (isNil (treeAt left x (getD (x .next) p 0)))) where
@@ -108,9 +108,9 @@ after-zero s at k b l h =
     ap (λ (i : ℕ). ltb i (2 ^ (8 * k))) v ∙ below-power (leValue (area at k s)) (leValue (area (at + k) (8 - k) s)) (2 ^ (8 * k)) lt ∙ word-zero (area (at + k) (8 - k) s)
 
 -- a label by its bytes
-pub label-tail : (s : List ℕ) (p n : ℕ) → p < 256 → n ≤ 16 → area (2562 + 16 * p + n) (16 - n) s ≡ area (16 * p + n) (16 - n) (poolIn s .label)
+pub label-tail : (s : List ℕ) (p n : ℕ) → p < 256 → n ≤ 16 → area (labelsAt + 16 * p + n) (16 - n) s ≡ area (16 * p + n) (16 - n) (poolIn s .label)
 label-tail s p n h k =
-    let f : 2562 + 16 * p + n ≡ 2562 + (16 * p + n) = omega arith in
+    let f : labelsAt + 16 * p + n ≡ labelsAt + (16 * p + n) = omega arith in
     ap (λ (i : ℕ). area i (16 - n) s) f ∙ sym (label-of s p h n (16 - n) (omega arith))
 
 -- a label of 16 bytes, and one of more than 8
@@ -120,26 +120,26 @@ label-full xs at n e =
     let z : 16 - n ≡ 0 = omega arith in
     sym (ap (λ (i : ℕ). allZero (area at i xs)) z ∙ ap allZero (area-none at xs))
 
-pub label-long : (s : List ℕ) (p n : ℕ) → p < 256 → 8 < n → n ≤ 16 → area (2562 + 16 * p + 8 + (n - 8)) (8 - (n - 8)) s ≡ area (16 * p + n) (16 - n) (poolIn s .label)
+pub label-long : (s : List ℕ) (p n : ℕ) → p < 256 → 8 < n → n ≤ 16 → area (labelsAt + 16 * p + 8 + (n - 8)) (8 - (n - 8)) s ≡ area (16 * p + n) (16 - n) (poolIn s .label)
 label-long s p n h j k =
-    let e : 2562 + 16 * p + 8 + (n - 8) ≡ 2562 + 16 * p + n = omega arith in
+    let e : labelsAt + 16 * p + 8 + (n - 8) ≡ labelsAt + 16 * p + n = omega arith in
     let f : 8 - (n - 8) ≡ 16 - n = omega arith in
     ap₂ (λ (a b : ℕ). area a b s) e f ∙ label-tail s p n h k
 
 -- a whole one by two words
-pub label-words : (s : List ℕ) (p : ℕ) → p < 256 → 6658 ≤ length s → allZero (area (16 * p) 16 (poolIn s .label)) ≡ both (allZero (area (2562 + 16 * p) 8 s)) (allZero (area (2562 + 16 * p + 8) 8 s))
+pub label-words : (s : List ℕ) (p : ℕ) → p < 256 → recordSize ≤ length s → allZero (area (16 * p) 16 (poolIn s .label)) ≡ both (allZero (area (labelsAt + 16 * p) 8 s)) (allZero (area (labelsAt + 16 * p + 8) 8 s))
 label-words s p h l =
-    let f : 2562 + (16 * p + 0) ≡ 2562 + 16 * p = omega arith in
+    let f : labelsAt + (16 * p + 0) ≡ labelsAt + 16 * p = omega arith in
     let g : 16 * p ≡ 16 * p + 0 = omega arith in
-    ap (λ (i : ℕ). allZero (area i 16 (poolIn s .label))) g ∙ ap allZero (label-of s p h 0 16 (omega arith) ∙ ap (λ (i : ℕ). area i 16 s) f ∙ area-add (2562 + 16 * p) 8 8 s) ∙ all-append (area (2562 + 16 * p) 8 s) (area (2562 + 16 * p + 8) 8 s)
+    ap (λ (i : ℕ). allZero (area i 16 (poolIn s .label))) g ∙ ap allZero (label-of s p h 0 16 (omega arith) ∙ ap (λ (i : ℕ). area i 16 s) f ∙ area-add (labelsAt + 16 * p) 8 8 s) ∙ all-append (area (labelsAt + 16 * p) 8 s) (area (labelsAt + 16 * p + 8) 8 s)
 
 pub label-zero : (s : List ℕ) (p : ℕ) → p < 256
-    → allZero (take (2562 + 16 * p + 16 - (2562 + 16 * p)) (drop (2562 + 16 * p) s)) ≡ allZero (area (16 * p) 16 (poolIn s .label))
+    → allZero (take (labelsAt + 16 * p + 16 - (labelsAt + 16 * p)) (drop (labelsAt + 16 * p) s)) ≡ allZero (area (16 * p) 16 (poolIn s .label))
 label-zero s p h =
-    let e : 2562 + 16 * p + 16 - (2562 + 16 * p) ≡ 16 = omega arith in
-    let f : 2562 + 16 * p ≡ 2562 + (16 * p + 0) = omega arith in
+    let e : labelsAt + 16 * p + 16 - (labelsAt + 16 * p) ≡ 16 = omega arith in
+    let f : labelsAt + 16 * p ≡ labelsAt + (16 * p + 0) = omega arith in
     let g : 16 * p + 0 ≡ 16 * p = omega arith in
-    ap allZero (part-area (2562 + 16 * p) (2562 + 16 * p + 16 - (2562 + 16 * p)) s ∙ ap₂ (λ (i j : ℕ). area i j s) f e ∙ sym (label-of s p h 0 16 (omega arith)) ∙ ap (λ (i : ℕ). area i 16 (poolIn s .label)) g)
+    ap allZero (part-area (labelsAt + 16 * p) (labelsAt + 16 * p + 16 - (labelsAt + 16 * p)) s ∙ ap₂ (λ (i j : ℕ). area i j s) f e ∙ sym (label-of s p h 0 16 (omega arith)) ∙ ap (λ (i : ℕ). area i 16 (poolIn s .label)) g)
 
 -- the root: what is left to test once its length, its key flag and its sibling are zero
 module _ (s : List ℕ) (p : ℕ) (el : getD (poolIn s .len) p 0 ≡ 0) (ek : getD (poolIn s .key) p 0 ≡ 0) (en : getD (poolIn s .next) p 0 ≡ 0) where
@@ -150,8 +150,8 @@ module _ (s : List ℕ) (p : ℕ) (el : getD (poolIn s .len) p 0 ≡ 0) (ek : ge
   pub root-value : (getD (poolIn s .val) p 0 ≡ 0 → ⊥) → false ≡ both (isRoot (poolIn s) p) (isTidy (poolIn s) p)
   root-value z = rw (root-rest, ne-eqb _ _ z)
 
-  pub root-label : getD (poolIn s .val) p 0 ≡ 0 → p < 256 → 6658 ≤ length s
-      → both (isRoot (poolIn s) p) (isTidy (poolIn s) p) ≡ both (allZero (area (2562 + 16 * p) 8 s)) (allZero (area (2562 + 16 * p + 8) 8 s))
+  pub root-label : getD (poolIn s .val) p 0 ≡ 0 → p < 256 → recordSize ≤ length s
+      → both (isRoot (poolIn s) p) (isTidy (poolIn s) p) ≡ both (allZero (area (labelsAt + 16 * p) 8 s)) (allZero (area (labelsAt + 16 * p + 8) 8 s))
   root-label z h l = root-rest ∙ ap (λ (v : ℕ). both (eqb v 0) (allZero (area (16 * p) 16 (poolIn s .label)))) z ∙ label-words s p h l
 
 -- all tests

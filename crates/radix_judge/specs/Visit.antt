@@ -15,8 +15,17 @@ use Rattle.keys.specs.Entries.{mostKeys}
 use Rattle.keys.specs.Listing.{ifSo}
 use Rattle.keys.specs.Table.{lengthOf}
 use Rattle.radix.specs.Shape.{firstByte}
-use Rattle.radix.specs.Record.{Nodes, nodesOf, labelOf, ruleAt, isTidy, isFree, isRoot}
+use Rattle.radix.specs.Canon.{isNil, isOnly, isOneOf}
+use Rattle.radix.specs.Record.{Nodes, nodesOf, labelOf, valueOf, treeAt, isTidy, isFree, isRoot}
 use Rattle.radix.specs.declared.Index.{Index}
+use Rattle.radix_bytes.specs.Bytes.{childrenAt, keysAt, labelsAt, lensAt, nextsAt, valuesAt}
+
+-- the rule of a shape that is due at place p, whose children and later siblings go on for `most` nodes
+unfoldable pub ruleAt : Bool → ℕ → ℕ → Nodes → ℕ → Bool
+ruleAt first least most x p =
+    pick (both first (isNil (treeAt most x (getD (x .next) p 0))))
+    (isOnly (labelOf x p) (valueOf x p) (treeAt most x (getD (x .child) p 0)))
+    (isOneOf least (labelOf x p) (valueOf x p) (treeAt most x (getD (x .child) p 0)))
 
 -- what a walk leaves: how many keys it has met, and the marks
 pub record Seen : Type 0 where
@@ -61,10 +70,10 @@ areFree x marks p (suc n) = both (pick (eqb (getD marks p 0) 0) (isFree x p) tru
 -- every field from place p on is zero, in the bytes of a record
 unfoldable pub zeroFrom : List ℕ → ℕ → Bool
 zeroFrom s p =
-    both (allZero (area (2562 + 16 * p) (4096 - 16 * p) s))
-    (both (allZero (area (1538 + 4 * p) (1024 - 4 * p) s))
-    (both (allZero (area (1026 + 2 * p) (512 - 2 * p) s))
-    (both (allZero (area (514 + 2 * p) (512 - 2 * p) s)) (both (allZero (area (258 + p) (256 - p) s)) (allZero (area (2 + p) (256 - p) s))))))
+    both (allZero (area (labelsAt + 16 * p) (4096 - 16 * p) s))
+    (both (allZero (area (valuesAt + 4 * p) (1024 - 4 * p) s))
+    (both (allZero (area (nextsAt + 2 * p) (512 - 2 * p) s))
+    (both (allZero (area (childrenAt + 2 * p) (512 - 2 * p) s)) (both (allZero (area (keysAt + p) (256 - p) s)) (allZero (area (lensAt + p) (256 - p) s))))))
 
 abbrev pub restFree : Nodes → Option Seen → Bool
 restFree x none = false

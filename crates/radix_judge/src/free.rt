@@ -10,6 +10,13 @@ ghost use Rattle.octets.specs.Pick.{pick};
 ghost use Rattle.radix.specs.Record.{Nodes, isFree};
 ghost use Rattle.radix_bytes.specs.Bytes.{recordSize, poolIn};
 ghost use Rattle.radix_judge.specs.Visit.{areFree, zeroFrom};
+use radix_bytes::CHILDREN_AT;
+use radix_bytes::KEYS_AT;
+use radix_bytes::LABELS_AT;
+use radix_bytes::LENS_AT;
+use radix_bytes::NEXTS_AT;
+use radix_bytes::RECORD_BYTES;
+use radix_bytes::VALUES_AT;
 
 // Whether every field of a place is zero.
 fn free_at(s: &[u8], p: usize) -> bool
@@ -31,7 +38,7 @@ fn free_at(s: &[u8], p: usize) -> bool
     if radix_bytes::value_at(s, p) != 0 {
         return false;
     }
-    let at = 2562 + 16 * p;
+    let at = LABELS_AT + 16 * p;
     octets::all_zero_from(&s[at..at + 16], 0)
 }
 
@@ -95,22 +102,22 @@ fn zero_from(s: &[u8], p: usize) -> bool
     requires { ⌜ (length (now s) ≡ recordSize) × (p ≤ 256) ⌝ }
     ensures { λ r. ⌜ r ≡ zeroFrom (now (s .entry)) p ⌝ }
 {
-    if !octets::all_zero_from(&s[2562 + 16 * p..6658], 0) {
+    if !octets::all_zero_from(&s[LABELS_AT + 16 * p..RECORD_BYTES], 0) {
         return false;
     }
-    if !octets::all_zero_from(&s[1538 + 4 * p..2562], 0) {
+    if !octets::all_zero_from(&s[VALUES_AT + 4 * p..LABELS_AT], 0) {
         return false;
     }
-    if !octets::all_zero_from(&s[1026 + 2 * p..1538], 0) {
+    if !octets::all_zero_from(&s[NEXTS_AT + 2 * p..VALUES_AT], 0) {
         return false;
     }
-    if !octets::all_zero_from(&s[514 + 2 * p..1026], 0) {
+    if !octets::all_zero_from(&s[CHILDREN_AT + 2 * p..NEXTS_AT], 0) {
         return false;
     }
-    if !octets::all_zero_from(&s[258 + p..514], 0) {
+    if !octets::all_zero_from(&s[KEYS_AT + p..CHILDREN_AT], 0) {
         return false;
     }
-    octets::all_zero_from(&s[2 + p..258], 0)
+    octets::all_zero_from(&s[LENS_AT + p..KEYS_AT], 0)
 }
 
 pub fn rest_free<'a>(s: &'a [u8], marks: &'a [u8]) -> bool

@@ -15,6 +15,7 @@ mod walk;
 
 use free::rest_free;
 use node::zero_word;
+use radix_bytes::LABELS_AT;
 use walk::visit;
 
 // The root's place: no label, no key, no sibling, no value.
@@ -34,7 +35,7 @@ fn root_at(s: &[u8], p: usize) -> bool
     if radix_bytes::value_at(s, p) != 0 {
         return false;
     }
-    let at = 2562 + 16 * p;
+    let at = LABELS_AT + 16 * p;
     if !zero_word(s, at) {
         return false;
     }

@@ -8,9 +8,10 @@ ghost use Rattle.octets.specs.Pick.{both};
 ghost use Rattle.octets.specs.Place.{area};
 ghost use Rattle.octets.specs.Compare.{allZero};
 ghost use Rattle.radix.specs.Canon.{isNil, areSeveral, isOnly, isOneOf};
-ghost use Rattle.radix.specs.Record.{labelOf, valueOf, treeAt, ruleAt, isFlag, isTidy};
+ghost use Rattle.radix.specs.Record.{labelOf, valueOf, treeAt, isFlag, isTidy};
 ghost use Rattle.radix_bytes.specs.Bytes.{recordSize, poolIn};
-ghost use Rattle.radix_judge.specs.Visit.{isFit};
+ghost use Rattle.radix_judge.specs.Visit.{ruleAt, isFit};
+use radix_bytes::LABELS_AT;
 
 // Whether a link leads to a node that has a sibling.
 fn several(s: &[u8], left: usize, link: usize) -> bool
@@ -113,7 +114,7 @@ fn ends_at(s: &[u8], p: usize, n: usize) -> bool
     requires { ⌜ (length (now s) ≡ recordSize) × ((p < 256) × (n ≤ 16)) ⌝ }
     ensures { λ r. ⌜ r ≡ allZero (area (16 * p + n) (16 - n) (poolIn (now (s .entry)) .label)) ⌝ }
 {
-    let at = 2562 + 16 * p;
+    let at = LABELS_AT + 16 * p;
     if n == 16 {
         return true;
     }

@@ -10,17 +10,17 @@ use Rattle.octets.proofs.Laws.{part-area}
 use Rattle.keys.proofs.Laws.{sound-some}
 use Rattle.radix.specs.Record.{entriesOf}
 use Rattle.radix.proofs.Laws.{holds, root-within}
-use Rattle.radix_bytes.specs.Bytes.{recordFrom, poolIn}
+use Rattle.radix_bytes.specs.Bytes.{labelsAt, recordSize, recordFrom, poolIn}
 use Rattle.radix_bytes.proofs.Laws.{label-in, label-size}
 use Rattle.radix_judge.specs.Visit.{isSound}
 use Rattle.radix_judge.proofs.Laws.{sound-holds}
 
-pub label-part : (s : List ℕ) (p n : ℕ) → p < 256 → n ≤ 16 → take (2562 + 16 * p + n - (2562 + 16 * p)) (drop (2562 + 16 * p) s) ≡ area (16 * p) n (poolIn s .label)
+pub label-part : (s : List ℕ) (p n : ℕ) → p < 256 → n ≤ 16 → take (labelsAt + 16 * p + n - (labelsAt + 16 * p)) (drop (labelsAt + 16 * p) s) ≡ area (16 * p) n (poolIn s .label)
 label-part s p n h k =
-    let e : 2562 + 16 * p + n - (2562 + 16 * p) ≡ n = omega arith in
-    part-area (2562 + 16 * p) (2562 + 16 * p + n - (2562 + 16 * p)) s ∙ ap (λ (j : ℕ). area (2562 + 16 * p) j s) e ∙ label-in s p n h k
+    let e : labelsAt + 16 * p + n - (labelsAt + 16 * p) ≡ n = omega arith in
+    part-area (labelsAt + 16 * p) (labelsAt + 16 * p + n - (labelsAt + 16 * p)) s ∙ ap (λ (j : ℕ). area (labelsAt + 16 * p) j s) e ∙ label-in s p n h k
 
-pub root-in : (s : List ℕ) → length s ≡ 6658 → isSound (recordFrom s) ≡ true → recordFrom s .root < 256
+pub root-in : (s : List ℕ) → length s ≡ recordSize → isSound (recordFrom s) ≡ true → recordFrom s .root < 256
 root-in s z e =
     let (es, h) = sound-some (entriesOf (recordFrom s)) (sound-holds (recordFrom s) (label-size s z) e) in
     root-within (recordFrom s) (holds (recordFrom s) es h .placed)

@@ -11,13 +11,14 @@ ghost use Rattle.radix.specs.Gathering.{withOwn, gathered};
 ghost use Rattle.radix.specs.Answer.{rowsOf, Room, Within};
 ghost use Rattle.radix_bytes.specs.Bytes.{recordSize, poolIn};
 use radix::Gathered;
+use radix_bytes::LABELS_AT;
 
 // To the d bytes of a path that lead to a node come the n bytes of its label.
 fn extend(path: &mut [u8], d: usize, s: &[u8], p: usize, n: usize)
     requires { ⌜ (d + n ≤ 16) × ((length (now path) ≡ 16) × ((length (now s) ≡ recordSize) × (p < 256))) ⌝ }
     ensures { λ _. ⌜ (take d (now (path .exit)) ≡ take d (now (path .entry))) × (take (d + n) (now (path .exit)) ≡ take d (now (path .entry)) ++ area (16 * p) n (poolIn (now (s .entry)) .label)) ⌝ }
 {
-    let at = 2562 + 16 * p;
+    let at = LABELS_AT + 16 * p;
     octets::copy_in(path, d, &s[at..at + n]);
 }
 

@@ -10,7 +10,7 @@ use Rattle.octets.specs.Pick.{pick}
 use Rattle.octets.specs.Maybe.{orElse}
 use Rattle.keys.specs.Entries.{Entry, lastUpTo, isMap}
 use Rattle.octets.specs.Compare.{comesBefore}
-use Rattle.radix.specs.Shape.{Shape, nil, node, ownEntry, entriesIn, shape, startsWith}
+use Rattle.radix.specs.Shape.{Shape, nil, node, ownEntry, entriesBelow, shape, startsWith}
 use Rattle.radix.specs.Canon.{isNil, isHeld, canonical}
 use Rattle.radix.specs.Walk.{ownOf, greatestIn, seekLast, lastIn}
 use Rattle.radix.proofs.Laws.{under, remainders, entries-node, entries-before, remainders-under, StartsAt, From, keys-under, keys-below, before-under, before-over, starts-split, after-all, after-keep, Rules, leaf, only, oneOf, Some, some-under, rules-from, end-held, held-entries, canonical-rules, shape-back, shape-canonical}
@@ -39,27 +39,27 @@ last-parts : (k : List ℕ) (v : Option ℕ) (xs ys : List Entry) (best : Option
 last-parts k v xs ys best =
     last-append (ownEntry k v) (xs ++ ys) best ∙ last-append xs ys (lastOf (ownEntry k v) best) ∙ ap (λ (o : Option Entry). lastOf ys (lastOf xs o)) (last-own k v best)
 
-greatest-node : (before l : List ℕ) (v : Option ℕ) {below : Shape} → Rules true 0 below → greatestIn (before ++ l) below ≡ lastOf (entriesIn (before ++ l) below) none
-    → greatestIn before (node l v below nil) ≡ lastOf (entriesIn (before ++ l) below) (ownOf (before ++ l) v)
-unfolding greatestIn entriesIn
+greatest-node : (before l : List ℕ) (v : Option ℕ) {below : Shape} → Rules true 0 below → greatestIn (before ++ l) below ≡ lastOf (entriesBelow (before ++ l) below) none
+    → greatestIn before (node l v below nil) ≡ lastOf (entriesBelow (before ++ l) below) (ownOf (before ++ l) v)
+unfolding greatestIn entriesBelow
 greatest-node before l v {below = nil} b p = refl
-greatest-node before l v {below = node m w deeper later} b p = p ∙ last-some (entriesIn (before ++ l) (node m w deeper later)) none (ownOf (before ++ l) v) (some-at (before ++ l) b refl)
+greatest-node before l v {below = node m w deeper later} b p = p ∙ last-some (entriesBelow (before ++ l) (node m w deeper later)) none (ownOf (before ++ l) v) (some-at (before ++ l) b refl)
 
 -- beside later siblings
 greatest-beside : {first : Bool} {least : ℕ} (before l : List ℕ) (v : Option ℕ) {below later : Shape} → Rules true 0 below → Rules first least later
-    → greatestIn (before ++ l) below ≡ lastOf (entriesIn (before ++ l) below) none → greatestIn before later ≡ lastOf (entriesIn before later) none
-    → greatestIn before (node l v below later) ≡ lastOf (entriesIn before (node l v below later)) none
-unfolding greatestIn entriesIn
+    → greatestIn (before ++ l) below ≡ lastOf (entriesBelow (before ++ l) below) none → greatestIn before later ≡ lastOf (entriesBelow before later) none
+    → greatestIn before (node l v below later) ≡ lastOf (entriesBelow before (node l v below later)) none
+unfolding greatestIn entriesBelow
 greatest-beside before l v {below} {later = nil} b r p q =
     greatest-node before l v b p
-    ∙ sym (last-parts (before ++ l) v (entriesIn (before ++ l) below) [] none ∙ ap (lastOf (entriesIn (before ++ l) below)) (or-none (ownOf (before ++ l) v)))
+    ∙ sym (last-parts (before ++ l) v (entriesBelow (before ++ l) below) [] none ∙ ap (lastOf (entriesBelow (before ++ l) below)) (or-none (ownOf (before ++ l) v)))
 greatest-beside before l v {below} {later = node m w deeper later} b r p q =
     q
-    ∙ last-some (entriesIn before (node m w deeper later)) none (lastOf (entriesIn (before ++ l) below) (orElse (ownOf (before ++ l) v) none)) (some-at before r refl)
-    ∙ sym (last-parts (before ++ l) v (entriesIn (before ++ l) below) (entriesIn before (node m w deeper later)) none)
+    ∙ last-some (entriesBelow before (node m w deeper later)) none (lastOf (entriesBelow (before ++ l) below) (orElse (ownOf (before ++ l) v) none)) (some-at before r refl)
+    ∙ sym (last-parts (before ++ l) v (entriesBelow (before ++ l) below) (entriesBelow before (node m w deeper later)) none)
 
-greatest-last : {first : Bool} {least : ℕ} (before : List ℕ) {s : Shape} → Rules first least s → greatestIn before s ≡ lastOf (entriesIn before s) none
-unfolding greatestIn entriesIn
+greatest-last : {first : Bool} {least : ℕ} (before : List ℕ) {s : Shape} → Rules first least s → greatestIn before s ≡ lastOf (entriesBelow before s) none
+unfolding greatestIn entriesBelow
 greatest-last before leaf = refl
 greatest-last before (only {a = a} {l = l} {v = v} e b) =
     greatest-beside {first = true} {least = 0} before (a ∷ l) v b leaf (greatest-last (before ++ (a ∷ l)) b) refl
@@ -68,8 +68,8 @@ greatest-last before (oneOf {a = a} {v = v} n h e b m) =
 
 -- a node that holds a key needs nothing from before
 held-last : (k : List ℕ) (v : Option ℕ) {below : Shape} (best : Option Entry) → isHeld v below ≡ true → Rules true 0 below
-    → lastOf (entriesIn k below) (ownOf k v) ≡ lastOf (entriesIn k below) (orElse (ownOf k v) best)
-held-last k none {below} best h b = last-some (entriesIn k below) none best (some-at k b (not-true (isNil below) h))
+    → lastOf (entriesBelow k below) (ownOf k v) ≡ lastOf (entriesBelow k below) (orElse (ownOf k v) best)
+held-last k none {below} best h b = last-some (entriesBelow k below) none best (some-at k b (not-true (isNil below) h))
 held-last k (some v) best h b = refl
 
 -- lastUpTo of a list in two parts: the second is above the key; the first begins above it; the first is not above it
@@ -97,35 +97,35 @@ module _ (before : List ℕ) (a : ℕ) (l k : List ℕ) (t : Bool) where
   other-side h = keys-below (λ (x : List ℕ). comesBefore (before ++ k) x ≡ t) (before ++ (a ∷ l))
       (λ x. ap (comesBefore (before ++ k)) (append-assoc before (a ∷ l) x) ∙ before-under before k (a ∷ l ++ x) ∙ h x)
 
-module _ (before : List ℕ) (a : ℕ) (k : List ℕ) (later : Shape) (f : From (suc a) (entriesIn [] later)) where
-  later-over : Keys (λ (x : List ℕ). comesBefore (before ++ (a ∷ k)) x ≡ true) (entriesIn before later)
+module _ (before : List ℕ) (a : ℕ) (k : List ℕ) (later : Shape) (f : From (suc a) (entriesBelow [] later)) where
+  later-over : Keys (λ (x : List ℕ). comesBefore (before ++ (a ∷ k)) x ≡ true) (entriesBelow before later)
   later-over =
       rw (entries-before before later)
       (keys-under (StartsAt (suc a)) (λ (x : List ℕ). comesBefore (before ++ (a ∷ k)) x ≡ true) before
-      (λ x h. before-under before (a ∷ k) x ∙ before-over a k x h) (entriesIn [] later) f)
+      (λ x h. before-under before (a ∷ k) x ∙ before-over a k x h) (entriesBelow [] later) f)
 
 -- what a walk at or below finds
 abbrev Seeks : List ℕ → Shape → Type 0
-Seeks before s = (k : List ℕ) (best : Option Entry) → seekLast before s k best ≡ orElse (lastUpTo (before ++ k) (entriesIn before s)) best
+Seeks before s = (k : List ℕ) (best : Option Entry) → seekLast before s k best ≡ orElse (lastUpTo (before ++ k) (entriesBelow before s)) best
 
 module _ (before : List ℕ) (a : ℕ) (l : List ℕ) (v : Option ℕ) (below later : Shape) (h : isHeld v below ≡ true) (b : Rules true 0 below) where
   -- the node and all after it is above the key
-  last-at : (k : List ℕ) → comesBefore k (a ∷ l) ≡ true → lastUpTo (before ++ k) (entriesIn before (node (a ∷ l) v below later)) ≡ none
+  last-at : (k : List ℕ) → comesBefore k (a ∷ l) ≡ true → lastUpTo (before ++ k) (entriesBelow before (node (a ∷ l) v below later)) ≡ none
   last-at k n =
       let xs = remainders v below in
       rw (entries-node before (a ∷ l) v below later)
-      (last-none (before ++ k) (under (before ++ (a ∷ l)) xs) (entriesIn before later) (some-under (before ++ (a ∷ l)) xs (held-entries v h b)) (other-side before a l k true (λ x. after-all (a ∷ l) k x n) xs))
+      (last-none (before ++ k) (under (before ++ (a ∷ l)) xs) (entriesBelow before later) (some-under (before ++ (a ∷ l)) xs (held-entries v h b)) (other-side before a l k true (λ x. after-all (a ∷ l) k x n) xs))
 
   -- the key starts with the label
-  last-into : (r : List ℕ) (best : Option Entry) → comesBefore (a ∷ l ++ r) (a ∷ l) ≡ false → From (suc a) (entriesIn [] later) → Seeks (before ++ (a ∷ l)) below
+  last-into : (r : List ℕ) (best : Option Entry) → comesBefore (a ∷ l ++ r) (a ∷ l) ≡ false → From (suc a) (entriesBelow [] later) → Seeks (before ++ (a ∷ l)) below
       → seekLast (before ++ (a ∷ l)) below r (orElse (ownOf (before ++ (a ∷ l)) v) best)
-      ≡ orElse (lastUpTo (before ++ (a ∷ l ++ r)) (entriesIn before (node (a ∷ l) v below later))) best
-  unfolding entriesIn
+      ≡ orElse (lastUpTo (before ++ (a ∷ l ++ r)) (entriesBelow before (node (a ∷ l) v below later))) best
+  unfolding entriesBelow
   last-into r best n f ih =
       let k = before ++ (a ∷ l ++ r) in
       let o = ownEntry (before ++ (a ∷ l)) v in
-      let c = entriesIn (before ++ (a ∷ l)) below in
-      let d = entriesIn before later in
+      let c = entriesBelow (before ++ (a ∷ l)) below in
+      let d = entriesBelow before later in
       let w = orElse (ownOf (before ++ (a ∷ l)) v) best in
       ih r w
       ∙ ap (λ (z : List ℕ). orElse (lastUpTo z c) w) (append-assoc before (a ∷ l) r)
@@ -134,13 +134,13 @@ module _ (before : List ℕ) (a : ℕ) (l : List ℕ) (v : Option ℕ) (below la
 
   -- the node and what stands below it is below the key
   last-past : (k : List ℕ) (best : Option Entry) → comesBefore k (a ∷ l) ≡ false → startsWith (a ∷ l) k ≡ false
-      → orElse (lastUpTo (before ++ k) (entriesIn before later)) (greatestIn before (node (a ∷ l) v below nil))
-      ≡ orElse (lastUpTo (before ++ k) (entriesIn before (node (a ∷ l) v below later))) best
+      → orElse (lastUpTo (before ++ k) (entriesBelow before later)) (greatestIn before (node (a ∷ l) v below nil))
+      ≡ orElse (lastUpTo (before ++ k) (entriesBelow before (node (a ∷ l) v below later))) best
   last-past k best n s =
       let lab = before ++ (a ∷ l) in
       let xs = remainders v below in
-      let c = entriesIn lab below in
-      let d = entriesIn before later in
+      let c = entriesBelow lab below in
+      let d = entriesBelow before later in
       ap (orElse (lastUpTo (before ++ k) d))
       (greatest-node before (a ∷ l) v b (greatest-last lab b)
       ∙ held-last lab v best h b
@@ -158,25 +158,25 @@ module _ (before : List ℕ) (a : ℕ) (l : List ℕ) (v : Option ℕ) (below la
           → pick t best
           (pick u (seekLast (before ++ (a ∷ l)) below (drop (length (a ∷ l)) k) (orElse (ownOf (before ++ (a ∷ l)) v) best))
           (seekLast before later k (greatestIn before (node (a ∷ l) v below nil))))
-          ≡ orElse (lastUpTo (before ++ k) (entriesIn before (node (a ∷ l) v below later))) best
+          ≡ orElse (lastUpTo (before ++ k) (entriesBelow before (node (a ∷ l) v below later))) best
       go true u n s = ap (λ (o : Option Entry). orElse o best) (sym (last-at k n))
       go false true n s =
           let e = starts-split (a ∷ l) k s in
           last-into (drop (length (a ∷ l)) k) best (ap (λ (z : List ℕ). comesBefore z (a ∷ l)) (sym e) ∙ n) (rules-from m) p
-          ∙ ap (λ (z : List ℕ). orElse (lastUpTo (before ++ z) (entriesIn before (node (a ∷ l) v below later))) best) (sym e)
+          ∙ ap (λ (z : List ℕ). orElse (lastUpTo (before ++ z) (entriesBelow before (node (a ∷ l) v below later))) best) (sym e)
       go false false n s = q k (greatestIn before (node (a ∷ l) v below nil)) ∙ last-past k best n s
 
 pub rules-last : {first : Bool} {least : ℕ} (before : List ℕ) {s : Shape} → Rules first least s → Seeks before s
-unfolding seekLast entriesIn lastUpTo
+unfolding seekLast entriesBelow lastUpTo
 rules-last before leaf k best = refl
 rules-last before (only {a = a} {l = l} {v = v} {below = below} e b) k best =
     seeks-node before a l v below nil (end-held v below e) b leaf (rules-last (before ++ (a ∷ l)) b) (λ k best. refl) k best
 rules-last before (oneOf {a = a} {v = v} {below = below} {later = later} n h e b m) k best =
     seeks-node before a [] v below later e b m (rules-last (before ++ (a ∷ [])) b) (rules-last before m) k best
 
-pub canonical-last : (s : Shape) → canonical s ≡ true → (k : List ℕ) → lastIn [] s k ≡ lastUpTo k (entriesIn [] s)
+pub canonical-last : (s : Shape) → canonical s ≡ true → (k : List ℕ) → lastIn [] s k ≡ lastUpTo k (entriesBelow [] s)
 unfolding lastIn
-canonical-last s c k = rules-last [] (canonical-rules s c) k none ∙ or-none (lastUpTo k (entriesIn [] s))
+canonical-last s c k = rules-last [] (canonical-rules s c) k none ∙ or-none (lastUpTo k (entriesBelow [] s))
 
 pub shape-last : (es : List Entry) → isMap es ≡ true → (k : List ℕ) → lastIn [] (shape es) k ≡ lastUpTo k es
 shape-last es m k = canonical-last (shape es) (shape-canonical es m) k ∙ ap (lastUpTo k) (shape-back es m)

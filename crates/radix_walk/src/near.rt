@@ -16,6 +16,7 @@ ghost use Rattle.radix.specs.Walk.{ownOf, firstIn, lastIn};
 ghost use Rattle.radix_bytes.specs.Bytes.{recordSize, poolIn};
 ghost use Rattle.radix_walk.specs.Neighbours.{nearOf, cutKey, stopAt, leastFrom, greatestFrom, StopsAbove, StopsBelow, LastOf};
 use octets::Order;
+use radix_bytes::LABELS_AT;
 
 // A key and its value, if there is one: len bytes, and zeros after them.
 pub struct Near {
@@ -76,7 +77,7 @@ fn stop_above(s: &[u8], first: usize, k: &[u8]) -> Stop
     while radix::leads(left, at) {
         let p = at - 1;
         let n = radix_bytes::label_len(s, p);
-        match side(s, 2562 + 16 * p, n, k, i) {
+        match side(s, LABELS_AT + 16 * p, n, k, i) {
             Order::Less => {
                 at = radix_bytes::next_at(s, p);
                 left -= 1;
@@ -123,7 +124,7 @@ fn stop_below(s: &[u8], first: usize, k: &[u8]) -> Stop
     while radix::leads(left, at) {
         let p = at - 1;
         let n = radix_bytes::label_len(s, p);
-        match side(s, 2562 + 16 * p, n, k, i) {
+        match side(s, LABELS_AT + 16 * p, n, k, i) {
             Order::Less => {
                 stop = Stop { at, lead: i, left };
                 at = radix_bytes::next_at(s, p);
@@ -198,7 +199,13 @@ fn least(s: &[u8], from: Stop, k: &[u8]) -> Near
     let mut left = from.left;
     while radix::leads(left, at) {
         let p = at - 1;
-        n = laid(&mut path, n, s, 2562 + 16 * p, radix_bytes::label_len(s, p));
+        n = laid(
+            &mut path,
+            n,
+            s,
+            LABELS_AT + 16 * p,
+            radix_bytes::label_len(s, p),
+        );
         if radix_bytes::key_at(s, p) != 0 {
             return entry_of(&path, n, radix_bytes::value_at(s, p));
         }
@@ -245,7 +252,13 @@ fn greatest(s: &[u8], from: Stop, k: &[u8]) -> Near
     let mut left = from.left;
     while radix::leads(left, at) {
         let p = at - 1;
-        n = laid(&mut path, n, s, 2562 + 16 * p, radix_bytes::label_len(s, p));
+        n = laid(
+            &mut path,
+            n,
+            s,
+            LABELS_AT + 16 * p,
+            radix_bytes::label_len(s, p),
+        );
         let below = radix_bytes::child_at(s, p);
         if !radix::leads(left - 1, below) {
             return own_entry(s, p, &path, n);

@@ -21,6 +21,7 @@ use Rattle.wallathi.specs.Export.{Seen, seen, tellTo}
 use Rattle.wallathi.specs.Run.{call, Meets}
 use Rattle.wallathi.specs.Demands.{ledgerBy}
 use Rattle.wallathi.proofs.Turns.{does-turn}
+use Rattle.wallathi.proofs.Refused.{refused-keeps}
 
 -- a query is answered from the ledger that the store holds
 query-seen : (q : Query) (values output : List ℕ) (i j : Lent) (s : Seen) (l : Ledger) → Meets (call (λ _. onStream (asks q)) values output) i s j
@@ -35,7 +36,9 @@ query-seen q values output i j s l d e = by (heldBy i) e (does-turn (tellTo valu
 
 pub absent-field : (i j : Lent) (s : Seen) (id : Id) (name : List ℕ) (len : ℕ) (out : List ℕ) (l : Ledger) (x : Message)
     → Meets (call (λ n. onStream (asks (field id name n))) (len ∷ []) out) i s j → ledgerBy i ≡ some l → findMessage id (l .messages) ≡ some x
-    → length name ≤ 1000 → valueOf name (x .pairs) ≡ none → s ≡ seen 33 (len ∷ []) out
+    → length name ≤ 1000 → valueOf name (x .pairs) ≡ none → (s ≡ seen 33 (len ∷ []) out) × (j ≡ i)
 absent-field i j s id name len out l x d e f h v =
-    query-seen (field id name (length out)) (len ∷ []) out i j s l d e
-    ∙ ap (tellTo (len ∷ []) out) (let z : replyTo (field id name (length out)) l ≡ absent = rw (le-leb (length name) 1000 h, f, v) in z)
+    let z : replyTo (field id name (length out)) l ≡ absent = rw (le-leb (length name) 1000 h, f, v) in
+    let t : s ≡ seen 33 (len ∷ []) out = query-seen (field id name (length out)) (len ∷ []) out i j s l d e ∙ ap (tellTo (len ∷ []) out) z in
+    let n : s .code ≡ 33 = ap (λ (y : Seen). y .code) t in
+    (t, refused-keeps (call (λ n. onStream (asks (field id name n))) (len ∷ []) out) i j s d (omega arith) .kept)

@@ -1,12 +1,10 @@
 -- A written answer fits the command's output, and only a command with an output is answered so. Assumes nothing.
-use mathlib.Core.Bool.{Bool, true, false}
 use mathlib.Core.List.{List}
 use mathlib.Core.Option.{Option, some, none}
 use Prim.Native.Nat.{ℕ, _≤_}
 use lib.Dec.{leb, eqb}
 use lib.ListN.{length}
 use borrow.Author.Tests.{leb-true}
-use Rattle.octets.specs.Pick.{both}
 use Rattle.octets.specs.Maybe.{isNone}
 use Rattle.octets.proofs.Laws.{pick-by}
 use Rattle.id.specs.Id.{below}
@@ -15,15 +13,14 @@ use Rattle.id.specs.declared.Following.the-variants.{Next, Exhausted}
 use Rattle.slip.specs.Slip.{slip, parseSlip}
 use Rattle.node.specs.Message.{Pair, Message, message}
 use Rattle.node.specs.Step.{fitsAlone, findMessage, firstFrom, firstAfter, valueOf}
-use Rattle.groups.specs.Group.{Pending, Group, isName, mostPending}
+use Rattle.groups.specs.Group.{Pending, Group, mostPending}
 use Rattle.groups.specs.Area.{mostGroups}
-use Rattle.groups.specs.Answer.{lacksConsumer}
 use Rattle.groups.specs.Step as Groups
 use Rattle.stream.specs.Ledger.{Ledger}
 use Rattle.stream.specs.Cut.{freshCut}
 use Rattle.stream.specs.Command as Stream
 use Rattle.stream.specs.Command.{Answer, refused, done, given, counted, written, entry, moved, nothing, absent, notMoved}
-use Rattle.stream.specs.LedgerStep.{LedgerStep, Beside, GroupStep, refuses, leaves, onSetUp, addAs, onAdd, clockId, addFollowing, onAddByClock, onDelete, onTrim, idReply, writes, readReply, valueReply, fieldReply, replyTo, onCreate, onDestroy, delivers, acknowledges, claims, pendingReply, onGroup, areArguments, inLedger, ruled, ledgerStep}
+use Rattle.stream.specs.LedgerStep.{LedgerStep, Beside, GroupStep, refuses, leaves, onSetUp, addAs, onAdd, clockId, addFollowing, onAddByClock, onDelete, onTrim, idReply, writes, readReply, valueReply, fieldReply, replyTo, onCreate, onDestroy, delivers, acknowledges, claims, pendingReply, onGroup, nameRefusal, requestRefusal, inLedger, ruled, ledgerStep}
 use Rattle.snapshot.specs.Bytes.{snapshotOf}
 use Rattle.snapshot.specs.Command.{Command, onStream, save, load, saveReply}
 
@@ -104,7 +101,7 @@ group-fits (Stream.groupRead consumer time) ms g = by (firstAfter (g .delivered)
     by : (o : Option Message) → FitsGroup (delivers consumer time o g)
     by none = tt
     by (some m) =
-        pick-by FitsGroup (lacksConsumer consumer g) (leaves (refused 12) g) _ (λ e. tt)
+        pick-by FitsGroup (Groups.lacksConsumer consumer g) (leaves (refused 12) g) _ (λ e. tt)
         (λ e. pick-by FitsGroup (leb mostPending (length (g .pending))) (leaves (refused 13) g) _ (λ f. tt) (λ f. tt))
 group-fits (Stream.acknowledge i) ms g = by (Groups.findPending i (g .pending))
   where
@@ -117,7 +114,7 @@ group-fits (Stream.claim consumer least i time) ms g = by (Groups.findPending i 
     by none = tt
     by (some p) =
         pick-by FitsGroup (leb least (Groups.idle time (p .time))) _ (leaves notMoved g)
-        (λ e. pick-by FitsGroup (lacksConsumer consumer g) (leaves (refused 12) g) _ (λ f. tt) (λ f. tt)) (λ e. tt)
+        (λ e. pick-by FitsGroup (Groups.lacksConsumer consumer g) (leaves (refused 12) g) _ (λ f. tt) (λ f. tt)) (λ e. tt)
 group-fits (Stream.nextPending consumer i) ms g = by (Groups.nextPending consumer i g)
   where
     by : (o : Option Pending) → Fits 0 (pendingReply ms o)
@@ -125,9 +122,9 @@ group-fits (Stream.nextPending consumer i) ms g = by (Groups.nextPending consume
     by (some p) = tt
 group-fits (Stream.dropConsumer consumer) ms g = tt
 
-ruled-fits : (rule : Bool) (l : Ledger) (s : LedgerStep) → Fit s → Fit (ruled rule l s)
-ruled-fits true l s h = h
-ruled-fits false l s h = tt
+ruled-fits : (o : Option ℕ) (l : Ledger) (s : LedgerStep) → Fit s → Fit (ruled o l s)
+ruled-fits none l s h = h
+ruled-fits (some n) l s h = tt
 
 pub stream-fits : (c : Stream.Command) (b : Beside) (l : Ledger) → Fits (roomBy c) (ledgerStep b c l .answer)
 unfolding onSetUp onTrim onCreate
@@ -152,14 +149,14 @@ stream-fits (Stream.delete i) b l = by (findMessage i (l .messages))
     by none = tt
     by (some m) = tt
 stream-fits (Stream.trim k) b l = tt
-stream-fits (Stream.createGroup name start) b l = ruled-fits (isName name) l (onCreate name start l) (pick-by Fit (isNone (Groups.findGroup name (l .groups))) _ (refuses l 10) (λ e. pick-by Fit (leb mostGroups (length (l .groups))) (refuses l 11) _ (λ f. tt) (λ f. tt)) (λ e. tt))
-stream-fits (Stream.destroyGroup name) b l = ruled-fits (isName name) l (onDestroy name (Groups.findGroup name (l .groups)) l) (by (Groups.findGroup name (l .groups)))
+stream-fits (Stream.createGroup name start) b l = ruled-fits (nameRefusal name) l (onCreate name start l) (pick-by Fit (isNone (Groups.findGroup name (l .groups))) _ (refuses l 10) (λ e. pick-by Fit (leb mostGroups (length (l .groups))) (refuses l 11) _ (λ f. tt) (λ f. tt)) (λ e. tt))
+stream-fits (Stream.destroyGroup name) b l = ruled-fits (nameRefusal name) l (onDestroy name (Groups.findGroup name (l .groups)) l) (by (Groups.findGroup name (l .groups)))
   where
     by : (o : Option Group) → Fit (onDestroy name o l)
     by none = tt
     by (some g) = tt
 stream-fits (Stream.asks q) b l = query-fits q l
-stream-fits (Stream.inGroup name c) b l = ruled-fits (both (isName name) (areArguments c)) l (inLedger l c (Groups.findGroup name (l .groups))) (by (Groups.findGroup name (l .groups)))
+stream-fits (Stream.inGroup name c) b l = ruled-fits (requestRefusal name c) l (inLedger l c (Groups.findGroup name (l .groups))) (by (Groups.findGroup name (l .groups)))
   where
     by : (o : Option Group) → Fit (inLedger l c o)
     by none = tt

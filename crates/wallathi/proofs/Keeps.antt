@@ -1,5 +1,4 @@
--- A command on a model that keeps the rules leaves the model as it is, or is not refused and leaves another ledger in a model that
--- keeps them. Assumes nothing.
+-- A command on a model that keeps the rules leaves the model as it is, or another ledger in a model that keeps them. Assumes nothing.
 use mathlib.Core.Path.{_≡_, refl, sym, ap, _∙_, subst}
 use mathlib.Core.Bool.{Bool, true, false}
 use mathlib.Core.List.{List, [], _∷_}
@@ -25,22 +24,21 @@ use Rattle.node.specs.Message.{Pair, Message, isMessage, message}
 use Rattle.node.specs.Step.{fitsAlone, findMessage, firstAfter, withoutMessage}
 use Rattle.groups.specs.Group.{Pending, Group, isName, mostPending}
 use Rattle.groups.specs.Area.{areaBytes, parseArea, isGroups, mostGroups}
-use Rattle.groups.specs.Answer.{lacksConsumer}
 use Rattle.groups.specs.Step as Groups
 use Rattle.groups.proofs.Laws.{area-parse, put-found-same, deliver-groups, acknowledge-groups, claim-groups, drop-groups, create-groups, destroy-groups}
 use Rattle.stream.specs.Ledger.{Ledger, withMessages, messagesAbove}
 use Rattle.stream.specs.Cut.{Node, Model, messagesOf, ledgerOf, isModel, addMessage, lacksSlot, deleteOldest}
 use Rattle.stream.specs.Command as Stream
-use Rattle.stream.specs.Command.{Answer, isRefusal, refused, done, counted}
-use Rattle.stream.specs.LedgerStep.{GroupStep, leaves, clockId, onCreate, onGroup, onTrim, delivers, acknowledges, claims, areArguments}
+use Rattle.stream.specs.Command.{Answer, refused, done, counted}
+use Rattle.stream.specs.LedgerStep.{GroupStep, leaves, clockId, onCreate, onGroup, onTrim, delivers, acknowledges, claims, nameRefusal, argumentRefusal, requestRefusal}
 use Rattle.stream.specs.Step.{Step, step}
-use Rattle.stream.proofs.Laws.{model-rules, model-ledger, ledger-rules, model-of, model-keep, model-delete, model-trim, model-add, renoded, stepOf, regrouped, step-refused, step-stays, step-groups, step-goes, step-asks, step-unruled, step-no-group, step-in-group, Adds, adds-by-id, clock-above, add-no-slip, clock-no-slip, add-low, clock-exhausted, add-large, add-full, add-goes, delete-none, trim-none, messages-delete, messages-oldest, messages-add, delete-differs, trim-differs, add-differs}
+use Rattle.stream.proofs.Laws.{model-rules, model-ledger, ledger-rules, model-of, model-keep, model-delete, model-trim, model-add, renoded, stepOf, regrouped, step-refused, step-stays, step-groups, step-goes, step-asks, name-kept, second-kept, step-unruled, step-no-group, step-in-group, Adds, adds-by-id, clock-above, add-no-slip, clock-no-slip, add-low, clock-exhausted, add-large, add-full, add-goes, delete-none, trim-none, messages-delete, messages-oldest, messages-add, delete-differs, trim-differs, add-differs}
 use Rattle.snapshot.specs.Command.{isSetUp}
 use Rattle.wallathi.specs.Demands.{PassesGroup, PassesStream}
 
 pub data Outcome (slots : ℕ) (s : Step) (m : Model) : Type 0 where
   stays : s .after ≡ m → Outcome slots s m
-  changes : isModel slots (s .after) ≡ true → (ledgerOf (s .after) ≡ ledgerOf m → ⊥) → isRefusal (s .answer) ≡ false → Outcome slots s m
+  changes : isModel slots (s .after) ≡ true → (ledgerOf (s .after) ≡ ledgerOf m → ⊥) → Outcome slots s m
 
 -- the first message above an ID, of a ledger's
 record FirstAfter (i last : Id) (x : Message) : Type 0 where
@@ -62,33 +60,6 @@ first-facts i j last (m ∷ ms) x h e =
     by true b f a r e = subst (FirstAfter i last) (some-is e) (record { fits = f; above = b; up-to = a })
     by false b f a r e = r e
 
--- a group command that is refused leaves its group
-abbrev Leaves : Group → GroupStep → Type 0
-Leaves g s = isRefusal (s .answer) ≡ true → s .after ≡ g
-
-refused-leaves : (c : Stream.GroupCommand) (ms : List Message) (g : Group) → Leaves g (onGroup c ms g)
-refused-leaves (Stream.groupRead consumer time) ms g = by (firstAfter (g .delivered) ms)
-  where
-    by : (o : Option Message) → Leaves g (delivers consumer time o g)
-    by none = λ _. refl
-    by (some x) =
-        pick-by (Leaves g) (lacksConsumer consumer g) (leaves (refused 12) g) _ (λ _ _. refl)
-        (λ _. pick-by (Leaves g) (leb mostPending (length (g .pending))) (leaves (refused 13) g) _ (λ _ _. refl) (λ _ z. absurd (never z refl)))
-refused-leaves (Stream.acknowledge i) ms g = by (Groups.findPending i (g .pending))
-  where
-    by : (o : Option Pending) → Leaves g (acknowledges i o g)
-    by none = λ _. refl
-    by (some p) = λ z. absurd (never z refl)
-refused-leaves (Stream.claim consumer idle i time) ms g = by (Groups.findPending i (g .pending))
-  where
-    by : (o : Option Pending) → Leaves g (claims consumer idle time o g)
-    by none = λ _. refl
-    by (some p) =
-        pick-by (Leaves g) (leb idle (Groups.idle time (p .time))) _ (leaves Stream.notMoved g)
-        (λ _. pick-by (Leaves g) (lacksConsumer consumer g) (leaves (refused 12) g) _ (λ _ _. refl) (λ _ z. absurd (never z refl))) (λ _ _. refl)
-refused-leaves (Stream.nextPending consumer i) ms g = λ _. refl
-refused-leaves (Stream.dropConsumer consumer) ms g = λ z. absurd (never z refl)
-
 module _ (slots : ℕ) (m : Model) (e : isModel slots m ≡ true) where
   after-step : (s t : Step) → s ≡ t → Outcome slots t m → Outcome slots s m
   after-step s t q o = subst (λ (x : Step). Outcome slots x m) (sym q) o
@@ -97,17 +68,12 @@ module _ (slots : ℕ) (m : Model) (e : isModel slots m ≡ true) where
   same-model s a q = stays (ap (λ (x : Step). x .after) q)
 
   -- the groups alone: by their bytes it is known whether they changed
-  regroups : (s : Step) (a : Answer) (gs : List Group) → s ≡ stepOf a (regrouped m gs) → isGroups (m .last) gs ≡ true
-      → (isRefusal a ≡ true → gs ≡ m .groups) → Outcome slots s m
-  regroups s a gs q g k = after-step s (stepOf a (regrouped m gs)) q (by (same (areaBytes gs) (areaBytes (m .groups))) refl)
+  regroups : (s : Step) (a : Answer) (gs : List Group) → s ≡ stepOf a (regrouped m gs) → isGroups (m .last) gs ≡ true → Outcome slots s m
+  regroups s a gs q g = after-step s (stepOf a (regrouped m gs)) q (by (same (areaBytes gs) (areaBytes (m .groups))) refl)
     where
       differ : same (areaBytes gs) (areaBytes (m .groups)) ≡ false → gs ≡ m .groups → ⊥
       differ p q =
           never (same-refl (areaBytes (m .groups))) (ap (λ (x : List Group). same (areaBytes x) (areaBytes (m .groups))) (sym q) ∙ p)
-
-      not-refused : (t : Bool) → isRefusal a ≡ t → same (areaBytes gs) (areaBytes (m .groups)) ≡ false → t ≡ false
-      not-refused true z p = absurd (differ p (k z))
-      not-refused false z p = refl
 
       by : (t : Bool) → same (areaBytes gs) (areaBytes (m .groups)) ≡ t → Outcome slots (stepOf a (regrouped m gs)) m
       by true p =
@@ -118,7 +84,7 @@ module _ (slots : ℕ) (m : Model) (e : isModel slots m ≡ true) where
       by false p =
           let r = model-rules slots m e in
           changes (model-of slots (m .nodes) (m .last) gs (r .last-fits) (model-keep slots m e) g)
-          (λ q. differ p (ap (λ (l : Ledger). l .groups) q)) (not-refused (isRefusal a) refl p)
+          (λ q. differ p (ap (λ (l : Ledger). l .groups) q))
 
   -- an add
   adds : (c : Stream.Command) (x : Message) → Adds slots c m x → Outcome slots (step slots c m) m
@@ -131,7 +97,7 @@ module _ (slots : ℕ) (m : Model) (e : isModel slots m ≡ true) where
           let q = add-goes slots c m x a f l in
           unfold addMessage in
           after-step (step slots c m) _ q
-          (changes (model-add slots m e x (a .is-message) f (a .above) l) (λ z. add-differs _ m x (messages-add (m .nodes) x) z) refl)
+          (changes (model-add slots m e x (a .is-message) f (a .above) l) (λ z. add-differs _ m x (messages-add (m .nodes) x) z))
 
   add-outcome : (i : Id) (s : List ℕ) → Fits64 i → Bytes s → Outcome slots (step slots (Stream.add i s) m) m
   add-outcome i s f b = by (parseSlip s) refl
@@ -169,7 +135,7 @@ module _ (slots : ℕ) (m : Model) (e : isModel slots m ≡ true) where
       by (some x) f =
           after-step (step slots (Stream.delete i) m) _
           (step-goes slots (Stream.delete i) m (counted 1) (withMessages (ledgerOf m) (withoutMessage i (messagesOf (m .nodes)))) refl (rw f))
-          (changes (model-delete slots m e i) (λ z. delete-differs _ m i x (messages-delete least i (m .nodes) (model-rules slots m e .rising)) f z) refl)
+          (changes (model-delete slots m e i) (λ z. delete-differs _ m i x (messages-delete least i (m .nodes) (model-rules slots m e .rising)) f z))
 
   trims : (k : ℕ) → step slots (Stream.trim k) m
       ≡ stepOf (counted (length (messagesOf (m .nodes)) - k)) (renoded m (deleteOldest (length (messagesOf (m .nodes)) - k) (m .nodes)) (m .last))
@@ -190,7 +156,7 @@ module _ (slots : ℕ) (m : Model) (e : isModel slots m ≡ true) where
           let l : k < length (messagesOf (m .nodes)) = leb-false (length (messagesOf (m .nodes))) k h in
           let gone : ℕ = length (messagesOf (m .nodes)) - k in
           after-step (step slots (Stream.trim k) m) _ (trims k)
-          (changes (model-trim slots m e gone) (λ z. trim-differs (renoded m (deleteOldest gone (m .nodes)) (m .last)) m gone (messages-oldest gone (m .nodes)) (omega arith) (omega arith) z) refl)
+          (changes (model-trim slots m e gone) (λ z. trim-differs (renoded m (deleteOldest gone (m .nodes)) (m .last)) m gone (messages-oldest gone (m .nodes)) (omega arith) (omega arith) z))
 
   -- the groups made and destroyed
   groups-are : isGroups (m .last) (m .groups) ≡ true
@@ -207,7 +173,7 @@ module _ (slots : ℕ) (m : Model) (e : isModel slots m ≡ true) where
       by true r true p false q =
           regroups _ done (Groups.putGroup (Groups.newGroup name start) (m .groups))
           (step-groups slots (Stream.createGroup name start) m done (Groups.putGroup (Groups.newGroup name start) (m .groups)) (unfold onCreate in rw (r, p, q)) refl)
-          (create-groups (m .last) (m .groups) groups-are name start r f (leb-false mostGroups (length (m .groups)) q)) (λ z. absurd (never z refl))
+          (create-groups (m .last) (m .groups) groups-are name start r f (leb-false mostGroups (length (m .groups)) q))
 
   destroy-outcome : (name : List ℕ) → Outcome slots (step slots (Stream.destroyGroup name) m) m
   destroy-outcome name = by (isName name) refl (Groups.findGroup name (m .groups)) refl
@@ -217,7 +183,7 @@ module _ (slots : ℕ) (m : Model) (e : isModel slots m ≡ true) where
       by true r none p = same-model _ (refused 9) (step-refused slots (Stream.destroyGroup name) m 9 (rw (r, p)))
       by true r (some g) p =
           regroups _ done (Groups.withoutGroup name (m .groups))
-          (step-groups slots (Stream.destroyGroup name) m done (Groups.withoutGroup name (m .groups)) (rw (r, p)) refl) (destroy-groups (m .last) (m .groups) groups-are name) (λ z. absurd (never z refl))
+          (step-groups slots (Stream.destroyGroup name) m done (Groups.withoutGroup name (m .groups)) (rw (r, p)) refl) (destroy-groups (m .last) (m .groups) groups-are name)
 
   -- one group
   module _ (name : List ℕ) (g : Group) (f : Groups.findGroup name (m .groups) ≡ some g) where
@@ -227,16 +193,16 @@ module _ (slots : ℕ) (m : Model) (e : isModel slots m ≡ true) where
     keeps-same : isGroups (m .last) (Groups.putGroup g (m .groups)) ≡ true
     keeps-same = ap (isGroups (m .last)) (put-found-same name g (m .last) (m .groups) groups-are f) ∙ groups-are
 
-    group-keeps : (c : Stream.GroupCommand) → PassesGroup c → areArguments c ≡ true → Keeps (onGroup c (messagesOf (m .nodes)) g)
+    group-keeps : (c : Stream.GroupCommand) → PassesGroup c → argumentRefusal c ≡ none → Keeps (onGroup c (messagesOf (m .nodes)) g)
     group-keeps (Stream.groupRead consumer time) t a = by (firstAfter (g .delivered) (messagesOf (m .nodes))) refl
       where
         by : (o : Option Message) → firstAfter (g .delivered) (messagesOf (m .nodes)) ≡ o → Keeps (delivers consumer time o g)
         by none p = keeps-same
         by (some x) p =
             let y = first-facts (g .delivered) least (m .last) (messagesOf (m .nodes)) x (ledger-rules (ledgerOf m) (model-ledger slots m e) .messages-are) p in
-            pick-by Keeps (lacksConsumer consumer g) (leaves (refused 12) g) _ (λ _. keeps-same)
+            pick-by Keeps (Groups.lacksConsumer consumer g) (leaves (refused 12) g) _ (λ _. keeps-same)
             (λ l. pick-by Keeps (leb mostPending (length (g .pending))) (leaves (refused 13) g) _ (λ _. keeps-same)
-            (λ n. deliver-groups (m .last) (m .groups) groups-are name g f consumer time (x .id) a t (y .fits) (y .above) (y .up-to) l (leb-false mostPending (length (g .pending)) n)))
+            (λ n. deliver-groups (m .last) (m .groups) groups-are name g f consumer time (x .id) (name-kept consumer a) t (y .fits) (y .above) (y .up-to) l (leb-false mostPending (length (g .pending)) n)))
     group-keeps (Stream.acknowledge i) t a = by (Groups.findPending i (g .pending))
       where
         by : (o : Option Pending) → Keeps (acknowledges i o g)
@@ -248,23 +214,21 @@ module _ (slots : ℕ) (m : Model) (e : isModel slots m ≡ true) where
         by none p = keeps-same
         by (some x) p =
             pick-by Keeps (leb idle (Groups.idle time (x .time))) _ (leaves Stream.notMoved g)
-            (λ _. pick-by Keeps (lacksConsumer consumer g) (leaves (refused 12) g) _ (λ _. keeps-same) (λ l. claim-groups (m .last) (m .groups) groups-are name g f consumer time i x a t p l))
+            (λ _. pick-by Keeps (Groups.lacksConsumer consumer g) (leaves (refused 12) g) _ (λ _. keeps-same) (λ l. claim-groups (m .last) (m .groups) groups-are name g f consumer time i x (name-kept consumer a) t p l))
             (λ _. keeps-same)
     group-keeps (Stream.nextPending consumer i) t a = keeps-same
     group-keeps (Stream.dropConsumer consumer) t a = drop-groups (m .last) (m .groups) groups-are name g f consumer
 
   group-outcome : (name : List ℕ) (c : Stream.GroupCommand) → PassesGroup c → Outcome slots (step slots (Stream.inGroup name c) m) m
-  group-outcome name c t = by (both (isName name) (areArguments c)) refl (Groups.findGroup name (m .groups)) refl
+  group-outcome name c t = by (requestRefusal name c) refl (Groups.findGroup name (m .groups)) refl
     where
-      by : (r : Bool) → both (isName name) (areArguments c) ≡ r → (o : Option Group) → Groups.findGroup name (m .groups) ≡ o → Outcome slots (step slots (Stream.inGroup name c) m) m
-      by false r o p = same-model _ (refused 3) (step-unruled slots name c m r)
-      by true r none p = same-model _ (refused 9) (step-no-group slots name c m r p)
-      by true r (some g) p =
+      by : (r : Option ℕ) → requestRefusal name c ≡ r → (o : Option Group) → Groups.findGroup name (m .groups) ≡ o → Outcome slots (step slots (Stream.inGroup name c) m) m
+      by (some n) r o p = same-model _ (refused n) (step-unruled slots name c m n r)
+      by none r none p = same-model _ (refused 9) (step-no-group slots name c m r p)
+      by none r (some g) p =
           let s = onGroup c (messagesOf (m .nodes)) g in
           regroups _ (s .answer) (Groups.putGroup (s .after) (m .groups)) (step-in-group slots name c m g (s .after) (s .answer) r p refl)
-          (group-keeps name g p c t (both-true (isName name) (areArguments c) r .1))
-          (λ z.
-          ap (λ (h : Group). Groups.putGroup h (m .groups)) (refused-leaves c (messagesOf (m .nodes)) g z) ∙ put-found-same name g (m .last) (m .groups) groups-are p)
+          (group-keeps name g p c t (second-kept (nameRefusal name) (argumentRefusal c) r))
 
   pub outcome : (c : Stream.Command) → isSetUp c ≡ false → PassesStream c → Outcome slots (step slots c m) m
   outcome Stream.setUp z p = absurd (never refl z)

@@ -10,6 +10,7 @@ pub mod Damaged
 pub mod Built
 pub mod Keeps
 pub mod Possible
+pub mod Stays
 pub mod Refused
 pub mod Absent
 pub mod Demands

@@ -57,7 +57,7 @@ module _ {T : Type 0} (tell : Answer → T) (i : Lent) where
             left = i;
             meets = record { told-is = refl; size-kept = refl; holds = e ∙ ap some (sym q); tail-kept = refl; kept = λ _. refl };
           }
-      by (changes k d r) =
+      by (changes k d) =
           let b = built i (step (slotsOf i) c m .after) k in
           record {
             told = tell (step (slotsOf i) c m .answer);

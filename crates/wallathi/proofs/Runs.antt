@@ -191,13 +191,6 @@ at (b ∷ cs) (made-more {s = s} m r) =
       rest = a .rest;
     }
 
--- what is seen of the call after these
-pub record SeenAt (cs : List Call) (x : Seen) (ss : List Seen) : Type 0 where
-  pub first : List Seen
-  pub later : List Seen
-  pub seen-are : ss ≡ first ++ (x ∷ later)
-  pub as-many : length first ≡ length cs
-
 pub made-length : {cs : List Call} {i k : Lent} {ss : List Seen} → Made cs i ss k → length ss ≡ length cs
 made-length made-none = refl
 made-length (made-more m r) = ap suc (made-length r)

@@ -20,8 +20,8 @@ use Rattle.snapshot.specs.Command.{save, saveReply, saveBy}
 use Rattle.snapshot.proofs.Laws.{saves-same}
 use Rattle.wallathi.specs.Export.{Seen, seen, tellTo}
 use Rattle.wallathi.specs.Run.{Call, call, plain, Meets, Made}
-use Rattle.wallathi.specs.Demands.{keptAfter, ledgerBy, saveSeen, fileIn}
-use Rattle.wallathi.proofs.Runs.{held-rules, whole, at, SeenAt, made-length}
+use Rattle.wallathi.specs.Demands.{keptAfter, ledgerBy, saveSeen, fileIn, SeenAt}
+use Rattle.wallathi.proofs.Runs.{held-rules, whole, at, made-length}
 
 put-first : (out bs : List ℕ) → put out 0 bs ≡ bs ++ drop (length bs) out
 unfolding put

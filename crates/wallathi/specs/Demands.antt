@@ -1,19 +1,24 @@
--- What is claimed of whole lists of calls (00, The order; 01, Snapshot, last paragraph): proofs/Demands proves it. Assumes nothing.
+-- What is claimed of whole lists of calls (00, The order; 01, Snapshot, last paragraph), for every host that calls the exported
+-- functions one after the other on one store and its state: the record `Demands`, at the end. Before it stands what its words mean.
+-- proofs/Demands proves it. Assumes nothing.
 use mathlib.Core.Path.{_≡_}
 use mathlib.Core.Bool.{true, false}
 use mathlib.Core.List.{List, [], _∷_, _++_, List·Memᴰ}
-use mathlib.Core.Option.{Option, some, Option·map}
+use mathlib.Core.Option.{Option, some, none, Option·map}
 use Prim.Native.Nat.{ℕ, _^_, _≤_, _<_}
 use lib.Dec.{leb}
 use lib.ListN.{length, take, drop, getD}
 use Rattle.octets.specs.Pick.{pick}
 use Rattle.octets.specs.Bytes.{Bytes}
+use Rattle.id.specs.declared.Id.{Id}
 use Rattle.id.specs.Id.{Fits64}
+use Rattle.node.specs.Message.{Message}
+use Rattle.node.specs.Step.{findMessage, valueOf}
 use Rattle.groups.specs.Group.{Pending, Group, isAmong}
 use Rattle.stream.specs.Ledger.{Ledger, emptyLedger, isLedger}
 use Rattle.stream.specs.Cut.{Node, Model, modelOf, ledgerOf, isModel, freshCut}
 use Rattle.stream.specs.Command as Stream
-use Rattle.stream.specs.Command.{GroupCommand, groupRead, acknowledge, claim, nextPending, dropConsumer, setUp, add, addByClock, delete, trim, createGroup, destroyGroup, asks, inGroup, Answer}
+use Rattle.stream.specs.Command.{GroupCommand, groupRead, acknowledge, claim, nextPending, dropConsumer, setUp, add, addByClock, delete, trim, createGroup, destroyGroup, asks, inGroup, field, Answer}
 use Rattle.stream.specs.Laid.{Laid}
 use Rattle.stream.specs.Run.{Turn, run, answers}
 use Rattle.stream.specs.Promise.{Lent, heldBy, slotsOf, tailOf}
@@ -21,7 +26,7 @@ use Rattle.snapshot.specs.Bytes.{snapshotOf}
 use Rattle.snapshot.specs.Command.{Command, onStream, save, load, loaded, heals, stepOf}
 use Rattle.snapshot.specs.Ledger.{ledgerTurn, besideTurn}
 use Rattle.wallathi.specs.Export.{Seen, seen, tellTo}
-use Rattle.wallathi.specs.Run.{Call, plain, commandOf, Meets, Made}
+use Rattle.wallathi.specs.Run.{Call, call, plain, commandOf, Meets, Made}
 
 -- the plain ledger with the cut beside it
 pub record Kept : Type 0 where
@@ -120,7 +125,7 @@ pub record OneConsumer (g : Group) (p : Pending) : Type 0 where
   pub only : (q : Pending) → List·Memᴰ q (g .pending) → q .id ≡ p .id → q ≡ p
   pub among : isAmong (p .consumer) (g .consumers) ≡ true
 
--- demand 1: a refusal answers its number only, and every byte is kept
+-- demand 1: a refusal answers its number only, and every byte is kept: out-parameters, output, store and state
 pub record Refuses (c : Call) (i : Lent) (s : Seen) (j : Lent) : Type 0 where
   pub seen-is : s ≡ seen (s .code) (c .values) (c .output)
   pub kept : j ≡ i
@@ -175,3 +180,57 @@ pub record FreshRun (cs : List Call) (i₀ : Lent) : Type 0 where
   pub sets-up : Meets (plain setUp []) i₀ told begun
   pub code-is : told .code ≡ 0
   pub run-on : SomeRun cs begun
+
+-- what is seen of the call after these
+pub record SeenAt (cs : List Call) (x : Seen) (ss : List Seen) : Type 0 where
+  pub first : List Seen
+  pub later : List Seen
+  pub seen-are : ss ≡ first ++ (x ∷ later)
+  pub as-many : length first ≡ length cs
+
+-- the claim: what was ordered (00), word for word, and that it is not said of nothing
+pub record Demands : Type 0 where
+  -- "From a fresh store, every sequence of commands answers as the plain ledger does with its cut beside it, refusals included, and the
+  -- stored listpacks hold that ledger by the published encoding"; "the store after it holds the ledger that document 01 works out from
+  -- the list". The store may have held any bytes i₀ before it was set up.
+  pub every-list : (cs : List Call) (i k : Lent) (ss : List Seen) (i₀ : Lent) (s : Seen) → Meets (plain setUp []) i₀ s i → s .code ≡ 0
+      → Made cs i ss k → AsLedger i₀ cs ss k
+  -- "Ledger and cut follow from the commands, their arguments and the number of slots alone" (01): one list on two stores
+  pub equal-lists : (cs : List Call) (i j k l : Lent) (ss ts : List Seen) (i₀ j₀ : Lent) (s t : Seen) → slotsOf i₀ ≡ slotsOf j₀
+      → Meets (plain setUp []) i₀ s i → s .code ≡ 0 → Made cs i ss k → Meets (plain setUp []) j₀ t j → t .code ≡ 0 → Made cs j ts l
+      → (ss ≡ ts) × (heldBy k ≡ heldBy l)
+  -- "Of the answers only refusal 7 depends on" the cut (01): one call on two stores, reached or handed in, that hold one ledger
+  pub only-seven : (j l : Lent) (s t : Seen) (c : Call) (i k : Lent) (m n : Model) → Meets c i s j → Meets c k t l → heldBy i ≡ some m
+      → heldBy k ≡ some n → slotsOf i ≡ slotsOf k → ledgerOf m ≡ ledgerOf n → OneAnswer s j t l
+  -- "A save is refused exactly as document 01's table says, and every save that is accepted writes exactly the snapshot of the ledger its
+  -- store holds": on any store that holds a ledger, reached or handed in; it keeps every byte of store and state
+  pub save-exact : (i j : Lent) (s : Seen) (len : ℕ) (out : List ℕ) (l : Ledger) → Meets (call save (len ∷ []) out) i s j → ledgerBy i ≡ some l
+      → (s ≡ saveSeen len out l) × (j ≡ i)
+  -- and anywhere in a list
+  pub save-in-list : (cs ds : List Call) (i k : Lent) (ss : List Seen) (i₀ : Lent) (s : Seen) (len : ℕ) (out : List ℕ) → Meets (plain setUp []) i₀ s i
+      → s .code ≡ 0 → Made (cs ++ (call save (len ∷ []) out ∷ ds)) i ss k → SeenAt cs (saveSeen len out (keptAfter (slotsOf i₀) cs .ledger)) ss
+  -- "Any two stores whose saves are accepted, reached by any two such lists or handed in, hold the same ledger exactly when their snapshots
+  -- are equal byte for byte"
+  pub same-snapshots : (i j k l : Lent) (s t : Seen) (m n : ℕ) (out place : List ℕ) → Meets (call save (m ∷ []) out) i s j
+      → Meets (call save (n ∷ []) place) k t l → s .code ≡ 0 → t .code ≡ 0
+      → (fileIn s ≡ fileIn t → ledgerBy i ≡ ledgerBy k) × (ledgerBy i ≡ ledgerBy k → fileIn s ≡ fileIn t)
+  -- "Whatever the lent store held, the loader accepts a file exactly when it is the snapshot of some ledger whose nodes, freshly cut, fit
+  -- that store of at least 4,096 bytes, and the store then holds that ledger"; otherwise every byte is kept
+  pub load-exact : (file : List ℕ) (i j : Lent) (s : Seen) → Meets (call (λ _. load file) [] []) i s j → Loads file i s j
+  -- "In each group a pending ID has exactly one consumer": in every group of every store that holds a ledger
+  pub one-consumer : (i : Lent) (m : Model) (g : Group) (p : Pending) → heldBy i ≡ some m → List·Memᴰ g (m .groups) → List·Memᴰ p (g .pending)
+      → OneConsumer g p
+  -- "A field that a message lacks reads as absent, never as zero or empty": 33, and nothing is written, in the output, the store or the
+  -- state
+  pub absent-field : (i j : Lent) (s : Seen) (id : Id) (name : List ℕ) (len : ℕ) (out : List ℕ) (l : Ledger) (x : Message)
+      → Meets (call (λ n. onStream (asks (field id name n))) (len ∷ []) out) i s j → ledgerBy i ≡ some l → findMessage id (l .messages) ≡ some x
+      → length name ≤ 1000 → valueOf name (x .pairs) ≡ none → (s ≡ seen 33 (len ∷ []) out) × (j ≡ i)
+  -- "Whatever document 01 refuses .. gets that document's number, and the store and the output keep all their bytes": whatever a call
+  -- answers but 0, so none, nothing new, absent and not moved (32, 33, 34) too
+  pub refused-keeps : (c : Call) (i j : Lent) (s : Seen) → Meets c i s j → 1 ≤ s .code → Refuses c i s j
+  -- ".. damaged stores included where it says so": a store that is no image, until it is set up or loaded
+  pub damaged : (cs : List Call) (i k : Lent) (ss : List Seen) → Made cs i ss k → heldBy i ≡ none → NoneHeals cs → (ss ≡ twos cs) × (k ≡ i)
+  -- none of this is said of nothing: whatever a store of at least 4,096 bytes held, there is such a list of promises kept, from set up on,
+  -- for every list of calls with arguments that C can pass; and so there is from any bytes
+  pub fresh-run : (cs : List Call) (i₀ : Lent) → 4096 ≤ length (i₀ .store) → AllPass cs → FreshRun cs i₀
+  pub some-run : (cs : List Call) (i : Lent) → AllPass cs → SomeRun cs i

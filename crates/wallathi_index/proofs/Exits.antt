@@ -1,11 +1,8 @@
 -- What is told of an answer. Assumes nothing.
-use mathlib.Core.Bool.{true, false}
 use mathlib.Core.List.{List}
 use mathlib.Core.Option.{Option}
-use mathlib.Core.Path.{_≡_, sym, ap, _∙_}
-use Prim.Native.Nat.{ℕ, _<_, _≤_}
-use borrow.Author.Tests.{lt-leb, le-leb}
-use lib.Dec.{leb}
+use mathlib.Core.Path.{_≡_, refl, sym, ap, _∙_}
+use Prim.Native.Nat.{ℕ}
 use lib.ListN.{length, take}
 use Rattle.octets.specs.Place.{put}
 use Rattle.keys.specs.Entries.{Entry, entry}
@@ -20,17 +17,10 @@ use Rattle.wallathi_index.specs.Export.{Follows, Tells}
 pub follows : (o : Operation) (e : Option (List Entry)) (s t : List ℕ) (a : Reply) (code : ℕ) → ChangesIn o e s a t → code ≡ codeOf a → Follows o e s code t
 follows o e s t a code h c = record { code-is = c ∙ ap codeOf (h .reply); bytes-are = h .bytes-are; holds = h .holds }
 
--- a key that does not fit the output, and one that does
-module _ (k : List ℕ) (v : ℕ) (out : List ℕ) (len w : ℕ) where
-  pub tells-8 : length out < length k → Tells (found (entry k v)) out len w 8 out len w
-  tells-8 h =
-      let e : leb (length k) (length out) ≡ false = lt-leb (length k) (length out) h in
-      record { code-is = rw e; out-is = rw e; len-is = rw e; value-is = rw e }
-
-  pub tells-0 : (out′ : List ℕ) (w′ : ℕ) → length k ≤ length out → out′ ≡ put out 0 k → w′ ≡ v → Tells (found (entry k v)) out len w 0 out′ (length k) w′
-  tells-0 out′ w′ h p q =
-      let e : leb (length k) (length out) ≡ true = le-leb (length k) (length out) h in
-      record { code-is = rw e; out-is = rw e p; len-is = rw e; value-is = rw e q }
+-- a key that is found
+pub tells-0 : (k : List ℕ) (v : ℕ) (out : List ℕ) (len w : ℕ) (out′ : List ℕ) (w′ : ℕ) → out′ ≡ put out 0 k → w′ ≡ v
+    → Tells (found (entry k v)) out len w 0 out′ (length k) w′
+tells-0 k v out len w out′ w′ p q = record { code-is = refl; out-is = p; len-is = refl; value-is = q }
 
 pub found-told : (n : Neighbour) (m : ℕ) → n .outcome ≡ Found → m ≡ n .len → found (entry (take m (n .key)) (n .value)) ≡ neighbourReply n
 found-told n m e f =

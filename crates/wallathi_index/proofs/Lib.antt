@@ -1,3 +1,3 @@
 pub mod Exits
--- the claims about every list of calls
+-- the claim about every list of calls
 pub mod Sequence

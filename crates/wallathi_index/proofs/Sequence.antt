@@ -1,4 +1,4 @@
--- The claims about whole lists of calls. Assumes nothing.
+-- The claim about whole lists of calls, proved. Assumes nothing.
 use mathlib.Core.Bool.{Bool, true, false}
 use mathlib.Core.List.{List, [], _∷_}
 use mathlib.Core.Option.{Option, some, none}
@@ -14,12 +14,13 @@ use Rattle.index_bytes.specs.Promise.{bytesAfter}
 use Rattle.index_bytes.proofs.Laws.{after-holds, empty-holds}
 use Rattle.wallathi_index.specs.Export.{outOf}
 use Rattle.wallathi_index.specs.Run.{Call, setUp, put, remove, find, firstAtOrAbove, lastAtOrBelow, Seen, told, gave, showed, seenBy, heldBy, leftBy, seenAll, heldAll, leftAll, Meets, meets-set-up, meets-put, meets-remove, meets-find, meets-first, meets-last, Made, made-none, made-more, Fits, AllFit}
+use Rattle.wallathi_index.specs.Demands.{Whole, codeSeen, Quiet, AllQuiet, NoSetUp, NoSetUps, AllTwo, Demands}
 
 -- one call: what is seen, the bytes and what they hold follow from what the bytes held
-pub record Once (c : Call) (s : List ℕ) (a : Seen) (t : List ℕ) : Type 0 where
-  pub seen : a ≡ seenBy c (entriesIn s)
-  pub left : t ≡ leftBy c (entriesIn s) s
-  pub held : entriesIn t ≡ heldBy c (entriesIn s)
+record Once (c : Call) (s : List ℕ) (a : Seen) (t : List ℕ) : Type 0 where
+  seen : a ≡ seenBy c (entriesIn s)
+  left : t ≡ leftBy c (entriesIn s) s
+  held : entriesIn t ≡ heldBy c (entriesIn s)
 
 gave-same : {a b m n : ℕ} → a ≡ b → m ≡ n → gave a m ≡ gave b n
 gave-same e f = ap₂ gave e f
@@ -27,7 +28,7 @@ gave-same e f = ap₂ gave e f
 showed-same : {a b m n x y : ℕ} {o p : List ℕ} → a ≡ b → o ≡ p → m ≡ n → x ≡ y → showed a o m x ≡ showed b p n y
 showed-same {b = b} {m = m} {x = x} {p = p} e f g h = ap₂ (λ (i : ℕ) (z : List ℕ). showed i z m x) e f ∙ ap₂ (λ (i j : ℕ). showed b p i j) g h
 
-pub once : {c : Call} {s t : List ℕ} {a : Seen} → Meets c s a t → Once c s a t
+once : {c : Call} {s t : List ℕ} {a : Seen} → Meets c s a t → Once c s a t
 once (meets-set-up e f h) = record { seen = ap told e; left = f; held = h }
 once (meets-put h) = record { seen = ap told (h .code-is); left = h .bytes-are; held = h .holds }
 once (meets-remove h e) = record { seen = gave-same (h .code-is) e; left = h .bytes-are; held = h .holds }
@@ -35,13 +36,7 @@ once (meets-find e f) = record { seen = gave-same e f; left = refl; held = refl 
 once (meets-first h) = record { seen = showed-same (h .code-is) (h .out-is) (h .len-is) (h .value-is); left = refl; held = refl }
 once (meets-last h) = record { seen = showed-same (h .code-is) (h .out-is) (h .len-is) (h .value-is); left = refl; held = refl }
 
--- every list of calls, from any bytes: all that a host sees, the bytes in the end and what they hold follow from what the bytes held
-pub record Whole (cs : List Call) (s : List ℕ) (seen : List Seen) (u : List ℕ) : Type 0 where
-  pub sees : seen ≡ seenAll cs (entriesIn s)
-  pub leaves : u ≡ leftAll cs (entriesIn s) s
-  pub holds : entriesIn u ≡ heldAll cs (entriesIn s)
-
-pub whole : {cs : List Call} {s u : List ℕ} {seen : List Seen} → Made cs s seen u → Whole cs s seen u
+whole : {cs : List Call} {s u : List ℕ} {seen : List Seen} → Made cs s seen u → Whole cs s seen u
 unfolding seenAll leftAll heldAll
 whole made-none = record { sees = refl; leaves = refl; holds = refl }
 whole (made-more {c} {cs} {s} {t} {u} {a} {seen} m r) =
@@ -53,8 +48,8 @@ whole (made-more {c} {cs} {s} {t} {u} {a} {seen} m r) =
       holds = w .holds ∙ ap (heldAll cs) (o .held);
     }
 
--- every list of calls has an outcome, so nothing above is said of nothing
-pub meets : (c : Call) (s : List ℕ) → Fits c → Meets c s (seenBy c (entriesIn s)) (leftBy c (entriesIn s) s)
+-- every list of calls has an outcome
+meets : (c : Call) (s : List ℕ) → Fits c → Meets c s (seenBy c (entriesIn s)) (leftBy c (entriesIn s) s)
 meets setUp s f = meets-set-up refl refl empty-holds
 meets (put k v) s f = meets-put (record { code-is = refl; bytes-are = refl; holds = after-holds (on.put k v) s f })
 meets (remove k o) s f = meets-remove (record { code-is = refl; bytes-are = refl; holds = after-holds (on.remove k) s tt }) refl
@@ -62,7 +57,7 @@ meets (find k o) s f = meets-find refl refl
 meets (firstAtOrAbove k out len v) s f = meets-first (record { code-is = refl; out-is = refl; len-is = refl; value-is = refl })
 meets (lastAtOrBelow k out len v) s f = meets-last (record { code-is = refl; out-is = refl; len-is = refl; value-is = refl })
 
-pub total : (cs : List Call) (s : List ℕ) → AllFit cs → Made cs s (seenAll cs (entriesIn s)) (leftAll cs (entriesIn s) s)
+total : (cs : List Call) (s : List ℕ) → AllFit cs → Made cs s (seenAll cs (entriesIn s)) (leftAll cs (entriesIn s) s)
 unfolding seenAll leftAll
 total [] s f = made-none
 total (c ∷ cs) s f =
@@ -70,32 +65,6 @@ total (c ∷ cs) s f =
     let h : entriesIn (leftBy c (entriesIn s) s) ≡ heldBy c (entriesIn s) = once m .held in
     made-more m
     (subst (λ (e : Option (List Entry)). Made cs (leftBy c (entriesIn s) s) (seenAll cs e) (leftAll cs e (leftBy c (entriesIn s) s))) h (total cs (leftBy c (entriesIn s) s) (f .1)))
-
--- the number that a call answered, and the count that remove gave
-abbrev pub codeSeen : Seen → ℕ
-codeSeen (told c) = c
-codeSeen (gave c n) = c
-codeSeen (showed c o l v) = c
-
-abbrev pub countSeen : Seen → ℕ
-countSeen (told c) = 0
-countSeen (gave c n) = n
-countSeen (showed c o l v) = 0
-
--- a call that only reads, or was refused, or removed nothing
-abbrev pub Quiet : Call → Seen → Type 0
-Quiet setUp a = ⊥
-Quiet (put k v) a = codeSeen a ≡ 0 → ⊥
-Quiet (remove k o) a = codeSeen a ≡ 0 → countSeen a ≡ 0
-Quiet (find k o) a = Unit {0}
-Quiet (firstAtOrAbove k out len v) a = Unit {0}
-Quiet (lastAtOrBelow k out len v) a = Unit {0}
-
-abbrev pub AllQuiet : List Call → List Seen → Type 0
-AllQuiet [] [] = Unit {0}
-AllQuiet [] (a ∷ seen) = ⊥
-AllQuiet (c ∷ cs) [] = ⊥
-AllQuiet (c ∷ cs) (a ∷ seen) = Quiet c a × AllQuiet cs seen
 
 -- no change, no byte
 kept-bytes : (o : on.Operation) (e : Option (List Entry)) (s : List ℕ) → on.isChange (on.replyIn o e) ≡ false → bytesAfter o e s ≡ s
@@ -135,26 +104,9 @@ quiet-one (meets-first h) q = refl
 quiet-one (meets-last h) q = refl
 
 -- lists that only read, or are refused, or remove nothing leave every byte
-pub quiet : {cs : List Call} {s u : List ℕ} {seen : List Seen} → Made cs s seen u → AllQuiet cs seen → u ≡ s
+quiet : {cs : List Call} {s u : List ℕ} {seen : List Seen} → Made cs s seen u → AllQuiet cs seen → u ≡ s
 quiet made-none q = refl
 quiet (made-more m r) q = quiet r (q .1) ∙ quiet-one m (q .0)
-
--- a damaged record answers 2 until a set up, and stays as it is
-abbrev pub NoSetUp : Call → Type 0
-NoSetUp setUp = ⊥
-NoSetUp (put k v) = Unit {0}
-NoSetUp (remove k o) = Unit {0}
-NoSetUp (find k o) = Unit {0}
-NoSetUp (firstAtOrAbove k out len v) = Unit {0}
-NoSetUp (lastAtOrBelow k out len v) = Unit {0}
-
-abbrev pub NoSetUps : List Call → Type 0
-NoSetUps [] = Unit {0}
-NoSetUps (c ∷ cs) = NoSetUp c × NoSetUps cs
-
-abbrev pub AllTwo : List Seen → Type 0
-AllTwo [] = Unit {0}
-AllTwo (a ∷ seen) = (codeSeen a ≡ 2) × AllTwo seen
 
 two : (c : Call) → NoSetUp c → codeSeen (seenBy c none) ≡ 2
 two setUp n = absurd n
@@ -172,10 +124,19 @@ stays (find k o) s n = refl
 stays (firstAtOrAbove k out len v) s n = refl
 stays (lastAtOrBelow k out len v) s n = refl
 
-pub damaged : {cs : List Call} {s u : List ℕ} {seen : List Seen} → Made cs s seen u → entriesIn s ≡ none → NoSetUps cs → (u ≡ s) × AllTwo seen
+damaged : {cs : List Call} {s u : List ℕ} {seen : List Seen} → Made cs s seen u → entriesIn s ≡ none → NoSetUps cs → (u ≡ s) × AllTwo seen
 damaged made-none e n = (refl, tt)
 damaged (made-more {c} {cs} {s} {t} {u} {a} {seen} m r) e n =
     let o = once m in
     let k : t ≡ s = o .left ∙ ap (λ (w : Option (List Entry)). leftBy c w s) e ∙ stays c s (n .0) in
     let w = damaged r (ap entriesIn k ∙ e) (n .1) in
     (w .0 ∙ k, (ap codeSeen (o .seen ∙ ap (seenBy c) e) ∙ two c (n .0), w .1))
+
+pub demands : Demands
+demands =
+    record {
+      every-list = λ cs s u seen m. whole m;
+      quiet = λ cs s u seen m q. quiet m q;
+      damaged = λ cs s u seen m e n. damaged m e n;
+      some-run = total;
+    }

@@ -1,16 +1,13 @@
--- What a C caller sees of an operation on a record of bytes: the number returned (0 answered, 2, 3 and 18 the refusals, 32 none, 8 where
--- the key found does not fit the output), the out-parameters and the output, written only with 0, and the record's bytes. Assumes nothing.
+-- What a C caller sees of an operation on a record of bytes: the number returned (0 answered, 2, 3 and 18 the refusals, 32 none), the
+-- out-parameters and the output of 16 bytes, written only with 0, and the record's bytes. Assumes nothing.
 use mathlib.Core.List.{List}
 use mathlib.Core.Option.{Option, some, none}
 use mathlib.Core.Path.{_≡_}
 use Prim.Native.Nat.{ℕ}
-use lib.Dec.{leb}
 use lib.ListN.{length}
-use Rattle.octets.specs.Pick.{pick}
 use Rattle.octets.specs.Place.{put}
 use Rattle.keys.specs.Entries.{Entry}
 use Rattle.keys.specs.Operation.{Operation, Reply, refused, done, removed, value, found, nothing, codeOf, replyIn, entriesAfter}
-use Rattle.keys.specs.Listing.{ifSo}
 use Rattle.index_bytes.specs.Held.{entriesIn}
 use Rattle.index_bytes.specs.Promise.{bytesAfter}
 
@@ -29,23 +26,16 @@ pub record Follows (o : Operation) (e : Option (List Entry)) (s : List ℕ) (cod
   pub bytes-are : t ≡ bytesAfter o e s
   pub holds : entriesIn t ≡ entriesAfter o e
 
--- the neighbours: the entry whose key is written to an output with `room` bytes
-abbrev pub given : Reply → ℕ → Option Entry
-given (refused n) room = none
-given done room = none
-given (removed n) room = none
-given (value v) room = none
-given (found e) room = ifSo (leb (length (e .key)) room) e
-given nothing room = none
+-- the neighbours: the entry that is found
+abbrev pub given : Reply → Option Entry
+given (refused n) = none
+given done = none
+given (removed n) = none
+given (value v) = none
+given (found e) = some e
+given nothing = none
 
-abbrev pub nearCode : Reply → ℕ → ℕ
-nearCode (refused n) room = n
-nearCode done room = 0
-nearCode (removed n) room = 0
-nearCode (value v) room = 0
-nearCode (found e) room = pick (leb (length (e .key)) room) 0 8
-nearCode nothing room = 32
-
+-- its key goes to the start of the output, whose other bytes stay; no key is longer than an output
 abbrev pub keyTo : Option Entry → List ℕ → List ℕ
 keyTo none out = out
 keyTo (some e) out = put out 0 (e .key)
@@ -60,7 +50,7 @@ valueTo (some e) v = e .value
 
 -- entered with the output and the two out-parameters, left with those after
 pub record Tells (r : Reply) (out : List ℕ) (len value code : ℕ) (out′ : List ℕ) (len′ value′ : ℕ) : Type 0 where
-  pub code-is : code ≡ nearCode r (length out)
-  pub out-is : out′ ≡ keyTo (given r (length out)) out
-  pub len-is : len′ ≡ lengthTo (given r (length out)) len
-  pub value-is : value′ ≡ valueTo (given r (length out)) value
+  pub code-is : code ≡ codeOf r
+  pub out-is : out′ ≡ keyTo (given r) out
+  pub len-is : len′ ≡ lengthTo (given r) len
+  pub value-is : value′ ≡ valueTo (given r) value

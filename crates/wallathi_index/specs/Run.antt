@@ -4,14 +4,13 @@ use mathlib.Core.List.{List, [], _∷_}
 use mathlib.Core.Option.{Option, some}
 use mathlib.Core.Path.{_≡_}
 use Prim.Native.Nat.{ℕ, _<_, _^_}
-use lib.ListN.{length}
 use Rattle.keys.specs.Entries.{Entry}
 use Rattle.keys.specs.Operation as on
 use Rattle.index_bytes.specs.Held.{entriesIn, recordBytes}
 use Rattle.index_bytes.specs.Promise.{bytesAfter}
-use Rattle.wallathi_index.specs.Export.{outOf, Follows, Tells, given, nearCode, keyTo, lengthTo, valueTo}
+use Rattle.wallathi_index.specs.Export.{outOf, Follows, Tells, given, keyTo, lengthTo, valueTo}
 
--- a call, with the output that it is lent and what its out-parameters hold before
+-- a call, with the output of 16 bytes that it is lent and what its out-parameters hold before
 pub data Call : Type 0 where
   setUp : Call
   put : List ℕ → ℕ → Call  -- key, value
@@ -26,18 +25,18 @@ pub data Seen : Type 0 where
   gave : ℕ → ℕ → Seen  -- number answered, count or value
   showed : ℕ → List ℕ → ℕ → ℕ → Seen  -- number answered, output, length, value
 
+-- of a reply that gives an entry
+abbrev pub shows : on.Reply → List ℕ → ℕ → ℕ → Seen
+shows r out len v = showed (on.codeOf r) (keyTo (given r) out) (lengthTo (given r) len) (valueTo (given r) v)
+
 -- of a record that holds the entries e
 abbrev pub seenBy : Call → Option (List Entry) → Seen
 seenBy setUp e = told 0
 seenBy (put k v) e = told (on.codeOf (on.replyIn (on.put k v) e))
 seenBy (remove k out) e = gave (on.codeOf (on.replyIn (on.remove k) e)) (outOf (on.replyIn (on.remove k) e) out)
 seenBy (find k out) e = gave (on.codeOf (on.replyIn (on.find k) e)) (outOf (on.replyIn (on.find k) e) out)
-seenBy (firstAtOrAbove k out len v) e =
-    showed (nearCode (on.replyIn (on.firstAtOrAbove k) e) (length out)) (keyTo (given (on.replyIn (on.firstAtOrAbove k) e) (length out)) out)
-    (lengthTo (given (on.replyIn (on.firstAtOrAbove k) e) (length out)) len) (valueTo (given (on.replyIn (on.firstAtOrAbove k) e) (length out)) v)
-seenBy (lastAtOrBelow k out len v) e =
-    showed (nearCode (on.replyIn (on.lastAtOrBelow k) e) (length out)) (keyTo (given (on.replyIn (on.lastAtOrBelow k) e) (length out)) out)
-    (lengthTo (given (on.replyIn (on.lastAtOrBelow k) e) (length out)) len) (valueTo (given (on.replyIn (on.lastAtOrBelow k) e) (length out)) v)
+seenBy (firstAtOrAbove k out len v) e = shows (on.replyIn (on.firstAtOrAbove k) e) out len v
+seenBy (lastAtOrBelow k out len v) e = shows (on.replyIn (on.lastAtOrBelow k) e) out len v
 
 -- the entries after it
 abbrev pub heldBy : Call → Option (List Entry) → Option (List Entry)

@@ -54,29 +54,39 @@ pub extern "C" fn wallathi_index_find(bytes: &[u8; 6658], key: &[u8], value: &mu
     code_of(a)
 }
 
-// 16 bytes of output always suffice.
+// The output has room for every key.
 #[no_mangle]
 pub extern "C" fn wallathi_index_first_at_or_above(
     bytes: &[u8; 6658],
     key: &[u8],
-    out: &mut [u8],
+    output: &mut [u8; 16],
     len: &mut u64,
     value: &mut u64,
 ) -> u32
-    ensures { λ r. ⌜ Tells (replyIn (firstAtOrAbove (now (key .entry))) (entriesIn (now (bytes .entry)))) (now (out .entry)) (now (len .entry)) (now (value .entry)) r (now (out .exit)) (now (len .exit)) (now (value .exit)) ⌝ }
+    ensures { λ r. ⌜ Tells (replyIn (firstAtOrAbove (now (key .entry))) (entriesIn (now (bytes .entry)))) (now (output .entry)) (now (len .entry)) (now (value .entry)) r (now (output .exit)) (now (len .exit)) (now (value .exit)) ⌝ }
 {
-    tell(index_bytes::first_at_or_above(bytes, key), out, len, value)
+    tell(
+        index_bytes::first_at_or_above(bytes, key),
+        output,
+        len,
+        value,
+    )
 }
 
 #[no_mangle]
 pub extern "C" fn wallathi_index_last_at_or_below(
     bytes: &[u8; 6658],
     key: &[u8],
-    out: &mut [u8],
+    output: &mut [u8; 16],
     len: &mut u64,
     value: &mut u64,
 ) -> u32
-    ensures { λ r. ⌜ Tells (replyIn (lastAtOrBelow (now (key .entry))) (entriesIn (now (bytes .entry)))) (now (out .entry)) (now (len .entry)) (now (value .entry)) r (now (out .exit)) (now (len .exit)) (now (value .exit)) ⌝ }
+    ensures { λ r. ⌜ Tells (replyIn (lastAtOrBelow (now (key .entry))) (entriesIn (now (bytes .entry)))) (now (output .entry)) (now (len .entry)) (now (value .entry)) r (now (output .exit)) (now (len .exit)) (now (value .exit)) ⌝ }
 {
-    tell(index_bytes::last_at_or_below(bytes, key), out, len, value)
+    tell(
+        index_bytes::last_at_or_below(bytes, key),
+        output,
+        len,
+        value,
+    )
 }

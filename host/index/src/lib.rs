@@ -28,10 +28,24 @@
 //! assert_eq!(damaged.find(b"Hobart"), Err(Refusal::Damaged));
 //! # Ok::<(), Refusal>(())
 //! ```
+//!
+//! The crate does without the standard library; without the feature `alloc`, on by default, there are the functions on lent records,
+//! [`raw`]. The library is compiled for x86-64 Linux.
 
+#![no_std]
 #![deny(unsafe_code, missing_docs)]
+#![warn(clippy::pedantic)]
+// What the library writes fits: a value has 32 bits, a key at most 16 bytes.
+#![allow(clippy::cast_possible_truncation)]
 
-use std::fmt;
+#[cfg(feature = "alloc")]
+extern crate alloc;
+
+use core::error::Error;
+use core::fmt;
+
+#[cfg(feature = "alloc")]
+use alloc::{boxed::Box, vec};
 
 #[allow(unsafe_code)]
 pub mod raw;
@@ -41,8 +55,9 @@ pub const LONGEST_KEY: usize = 16;
 /// An index holds up to this many keys.
 pub const MOST_KEYS: usize = 64;
 
-/// Why an operation was refused. The record is then as it was.
+/// Why an operation was refused. The record is then as it was. Later versions may refuse for further reasons.
 #[derive(Clone, Copy, Debug, PartialEq, Eq)]
+#[non_exhaustive]
 pub enum Refusal {
     /// The record is not the shape of any set of keys.
     Damaged,
@@ -54,6 +69,7 @@ pub enum Refusal {
 
 impl Refusal {
     /// The library's number.
+    #[must_use]
     pub fn number(self) -> u32 {
         match self {
             Refusal::Damaged => raw::DAMAGED,
@@ -73,9 +89,10 @@ impl fmt::Display for Refusal {
     }
 }
 
-impl std::error::Error for Refusal {}
+impl Error for Refusal {}
 
 /// A key that was found, with its value.
+#[cfg(feature = "alloc")]
 #[derive(Clone, Copy, PartialEq, Eq)]
 pub struct Entry {
     bytes: [u8; LONGEST_KEY],
@@ -83,18 +100,22 @@ pub struct Entry {
     value: u32,
 }
 
+#[cfg(feature = "alloc")]
 impl Entry {
     /// The key.
+    #[must_use]
     pub fn key(&self) -> &[u8] {
         &self.bytes[..self.length]
     }
 
     /// Its value.
+    #[must_use]
     pub fn value(&self) -> u32 {
         self.value
     }
 }
 
+#[cfg(feature = "alloc")]
 impl fmt::Debug for Entry {
     fn fmt(&self, f: &mut fmt::Formatter<'_>) -> fmt::Result {
         write!(f, "{} => {}", self.key().escape_ascii(), self.value)
@@ -105,13 +126,17 @@ impl fmt::Debug for Entry {
 ///
 /// Two are equal where their records are, byte for byte. Equal ones hold the same entries, but the
 /// converse does not hold: the nodes of a stored record may stand at any places.
+#[cfg(feature = "alloc")]
 #[derive(Clone, PartialEq, Eq)]
 pub struct Index {
     record: Box<[u8]>,
 }
 
+#[cfg(feature = "alloc")]
 impl Index {
     /// An index without keys.
+    #[must_use]
+    #[allow(clippy::missing_panics_doc)] // set up is never refused
     pub fn new() -> Index {
         let mut record = vec![0; raw::record_bytes()].into_boxed_slice();
         let answer = raw::set_up(&mut record);
@@ -121,27 +146,38 @@ impl Index {
 
     /// The index of a stored record; none where the length is not a record's. Whether the record is
     /// sound is judged by each operation.
+    #[must_use]
     pub fn from_record(record: impl Into<Box<[u8]>>) -> Option<Index> {
         let record = record.into();
         (record.len() == raw::record_bytes()).then_some(Index { record })
     }
 
     /// The bytes of the record.
+    #[must_use]
     pub fn record(&self) -> &[u8] {
         &self.record
     }
 
     /// The bytes of the record, to keep.
+    #[must_use]
     pub fn into_record(self) -> Box<[u8]> {
         self.record
     }
 
     /// Sets the value of a key, new or held.
+    ///
+    /// # Errors
+    ///
+    /// [`Refusal::Damaged`]; [`Refusal::BadKey`]; [`Refusal::Full`] where the key is new and 64 are held.
     pub fn put(&mut self, key: &[u8], value: u32) -> Result<(), Refusal> {
         answered(raw::put(&mut self.record, key, value)).map(|_| ())
     }
 
     /// Removes a key, and says whether it was held.
+    ///
+    /// # Errors
+    ///
+    /// [`Refusal::Damaged`]; [`Refusal::BadKey`].
     pub fn remove(&mut self, key: &[u8]) -> Result<bool, Refusal> {
         let mut count = 0;
         answered(raw::remove(&mut self.record, key, &mut count))?;
@@ -149,6 +185,10 @@ impl Index {
     }
 
     /// The value of a key.
+    ///
+    /// # Errors
+    ///
+    /// [`Refusal::Damaged`]; [`Refusal::BadKey`].
     pub fn find(&self, key: &[u8]) -> Result<Option<u32>, Refusal> {
         let mut value = 0;
         let is_held = answered(raw::find(&self.record, key, &mut value))?;
@@ -156,6 +196,10 @@ impl Index {
     }
 
     /// The first key that is the given one or comes after it.
+    ///
+    /// # Errors
+    ///
+    /// [`Refusal::Damaged`]; [`Refusal::BadKey`].
     pub fn first_at_or_above(&self, key: &[u8]) -> Result<Option<Entry>, Refusal> {
         let (mut bytes, mut length, mut value) = ([0; LONGEST_KEY], 0, 0);
         let answer = raw::first_at_or_above(&self.record, key, &mut bytes, &mut length, &mut value);
@@ -164,6 +208,10 @@ impl Index {
     }
 
     /// The last key that is the given one or comes before it.
+    ///
+    /// # Errors
+    ///
+    /// [`Refusal::Damaged`]; [`Refusal::BadKey`].
     pub fn last_at_or_below(&self, key: &[u8]) -> Result<Option<Entry>, Refusal> {
         let (mut bytes, mut length, mut value) = ([0; LONGEST_KEY], 0, 0);
         let answer = raw::last_at_or_below(&self.record, key, &mut bytes, &mut length, &mut value);
@@ -172,12 +220,14 @@ impl Index {
     }
 }
 
+#[cfg(feature = "alloc")]
 impl Default for Index {
     fn default() -> Index {
         Index::new()
     }
 }
 
+#[cfg(feature = "alloc")]
 impl fmt::Debug for Index {
     fn fmt(&self, f: &mut fmt::Formatter<'_>) -> fmt::Result {
         f.debug_struct("Index").finish_non_exhaustive()
@@ -185,6 +235,7 @@ impl fmt::Debug for Index {
 }
 
 /// Whether there is an answer, or none.
+#[cfg(feature = "alloc")]
 fn answered(answer: u32) -> Result<bool, Refusal> {
     match answer {
         raw::OK => Ok(true),
@@ -192,7 +243,6 @@ fn answered(answer: u32) -> Result<bool, Refusal> {
         raw::DAMAGED => Err(Refusal::Damaged),
         raw::BAD_KEY => Err(Refusal::BadKey),
         raw::FULL => Err(Refusal::Full),
-        // An output of 16 bytes is never too short.
         _ => unreachable!("the library answered {answer}"),
     }
 }

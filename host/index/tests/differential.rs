@@ -6,7 +6,7 @@ mod keys;
 
 use std::collections::BTreeMap;
 
-use beside::{one_of_each, room, step, Operation};
+use beside::{one_of_each, step, Operation};
 use keys::{Kind, KINDS};
 use wallathi_index::raw;
 use wallathi_model::index::record::{self, Field, RECORD_BYTES};
@@ -52,8 +52,8 @@ fn operation(rng: &mut Rng, kind: &Kind, index: &Index, phase: usize) -> Operati
         chance if chance < puts => Operation::Put { key, value: rng.next() as u32 >> rng.below(32) },
         chance if chance < removes => Operation::Remove { key },
         chance if chance % 3 == 0 => Operation::Find { key },
-        chance if chance % 3 == 1 => Operation::FirstAtOrAbove { key, room: room(rng) },
-        _ => Operation::LastAtOrBelow { key, room: room(rng) },
+        chance if chance % 3 == 1 => Operation::FirstAtOrAbove { key },
+        _ => Operation::LastAtOrBelow { key },
     }
 }
 
@@ -79,7 +79,7 @@ fn operations_in_sequence() {
         }
     }
     let known: Vec<u32> = numbers.keys().copied().collect();
-    assert_eq!(known, [raw::OK, raw::BAD_KEY, raw::SHORT_OUTPUT, raw::FULL, raw::NONE]);
+    assert_eq!(known, [raw::OK, raw::BAD_KEY, raw::FULL, raw::NONE]);
     assert!(numbers.values().all(|&times| times > 1_000), "{numbers:?}");
     assert!(fullest > 150, "{fullest}");
 }

@@ -29,7 +29,7 @@ fn agree(record: &[u8; RECORD_BYTES], key: &[u8], value: u32) -> bool {
     let told = other.map_or_else(|number| number, |held| held.map_or(raw::NONE, |_| raw::OK));
     assert_eq!((number, found), (told, other.ok().flatten().map_or(UNTOUCHED, u64::from)));
 
-    type Neighbour = fn(&[u8], &[u8], &mut [u8], &mut u64, &mut u64) -> u32;
+    type Neighbour = fn(&[u8], &[u8], &mut plain::Output, &mut u64, &mut u64) -> u32;
     type Plain = fn(&[u8; RECORD_BYTES], &[u8], &mut plain::Output) -> Result<plain::Near, u32>;
     let sides: [(Neighbour, Plain); 2] = [
         (raw::first_at_or_above, plain::first_at_or_above),

@@ -1,4 +1,4 @@
-//! Reading a byte slice from front to back, and its checksum.
+//! Reading a byte slice from front to back.
 
 use crate::id::Id;
 use crate::refusal::Refused;
@@ -52,24 +52,9 @@ impl<'a> Reader<'a> {
     }
 }
 
-/// Adler-32.
-pub fn checksum(bytes: &[u8]) -> u32 {
-    let (mut a, mut b) = (1u32, 0u32);
-    for &byte in bytes {
-        a = (a + u32::from(byte)) % 65_521;
-        b = (b + a) % 65_521;
-    }
-    b * 65_536 + a
-}
-
 #[cfg(test)]
 mod tests {
     use super::*;
-
-    #[test]
-    fn checksums_are_those_of_rfc_1950() {
-        assert_eq!(checksum(b"Wikipedia"), 0x11E6_0398);
-    }
 
     #[test]
     fn reads_in_order() {

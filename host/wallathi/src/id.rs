@@ -1,7 +1,8 @@
 //! Message IDs.
 
-use std::fmt;
-use std::str::FromStr;
+use core::error::Error;
+use core::fmt;
+use core::str::FromStr;
 
 /// A message's ID: ms, then seq. It is written `ms-seq`.
 ///
@@ -15,20 +16,26 @@ use std::str::FromStr;
 /// ```
 #[derive(Clone, Copy, Debug, Default, PartialEq, Eq, PartialOrd, Ord, Hash)]
 pub struct Id {
+    /// Milliseconds, where the host's clock gave the ID.
     pub ms: u64,
+    /// The number among the IDs of one ms.
     pub seq: u64,
 }
 
 impl Id {
     /// 0-0, which no message has.
     pub const LEAST: Id = Id::new(0, 0);
+    /// The ID after which there is none.
     pub const GREATEST: Id = Id::new(u64::MAX, u64::MAX);
 
+    /// The ID of these two numbers.
+    #[must_use]
     pub const fn new(ms: u64, seq: u64) -> Id {
         Id { ms, seq }
     }
 
     /// The ID that follows; none after the greatest.
+    #[must_use]
     pub fn following(self) -> Option<Id> {
         match self.seq.checked_add(1) {
             Some(seq) => Some(Id::new(self.ms, seq)),
@@ -53,15 +60,15 @@ impl fmt::Display for NotAnId {
     }
 }
 
-impl std::error::Error for NotAnId {}
+impl Error for NotAnId {}
 
 impl FromStr for Id {
     type Err = NotAnId;
 
     fn from_str(text: &str) -> Result<Id, NotAnId> {
-        let number = |digits: &str| match digits.bytes().all(|byte| byte.is_ascii_digit()) {
-            true => digits.parse().map_err(|_| NotAnId),
-            false => Err(NotAnId), // a sign
+        let number = |digits: &str| {
+            let is_unsigned = digits.bytes().all(|byte| byte.is_ascii_digit());
+            is_unsigned.then(|| digits.parse().ok()).flatten().ok_or(NotAnId)
         };
         let (ms, seq) = text.split_once('-').ok_or(NotAnId)?;
         Ok(Id::new(number(ms)?, number(seq)?))

@@ -3,8 +3,18 @@
 //! The code behind it is proved: each command answers as a plain ledger would, for any bytes of store and state. This crate is a safe
 //! Rust face of its C library (`host/include/wallathi.h`); start with [`Owned`]. A command that is refused says why by a [`Refusal`]
 //! and has changed nothing.
+//!
+//! The crate does without the standard library. The feature `alloc`, on by default, has what owns memory: [`Owned`], [`Slip`],
+//! [`Messages`] and the commands that answer vectors. Without it a store lives in [`Borrowed`] bytes, messages are [`SlipRef`]s, and
+//! answers go to lent bytes ([`Store::read_into`], [`Store::field_into`], [`Store::save_into`]). The library is compiled for x86-64
+//! Linux.
 
-#![deny(unsafe_code)]
+#![no_std]
+#![deny(unsafe_code, missing_docs)]
+#![warn(clippy::pedantic)]
+
+#[cfg(feature = "alloc")]
+extern crate alloc;
 
 #[allow(unsafe_code)]
 pub mod raw;
@@ -17,5 +27,12 @@ mod store;
 pub use id::{Id, NotAnId};
 pub use raw::STATE_BYTES;
 pub use refusal::Refusal;
-pub use slip::{Pairs, Slip};
-pub use store::{Borrowed, Messages, Owned, Pending, PendingEntries, Store, MOST_SLOTS, SLOT_BYTES};
+pub use slip::{Pairs, SlipRef, LONGEST_STRING, MOST_PAIRS};
+pub use store::{
+    Borrowed, Pending, PendingEntries, Store, LONGEST_SLIP, LONGEST_SNAPSHOT, MOST_SLOTS, SLOT_BYTES,
+};
+
+#[cfg(feature = "alloc")]
+pub use slip::Slip;
+#[cfg(feature = "alloc")]
+pub use store::{Messages, Owned};

@@ -1,7 +1,7 @@
 //! The functions of the C library on lent slices, one for one. All `unsafe` code of this crate is here.
 //!
 //! Each answers [`OK`], [`NONE`], [`ABSENT`], [`NOT_MOVED`] or the number of a refusal (`host/include/wallathi.h` has them), and
-//! changes nothing unless it answers [`OK`]. A state has [`STATE_BYTES`] bytes. The numbers that a command gives are written to
+//! changes nothing unless it answers [`OK`]; an answer that is not looked at is lost. A state has [`STATE_BYTES`] bytes. The numbers that a command gives are written to
 //! `values`, in the header's order.
 
 /// Answered, done, moved: what is lent to be written is written.
@@ -19,8 +19,7 @@ pub const STATE_BYTES: usize = 64_434;
 pub type State = [u8; STATE_BYTES];
 
 /// The functions themselves.
-pub mod c {
-    #![allow(missing_docs)]
+mod c {
     extern "C" {
         pub fn wallathi_state_bytes() -> u64;
         pub fn wallathi_set_up(store: *mut u8, store_length: usize, state: *mut u8) -> u32;
@@ -190,18 +189,21 @@ pub mod c {
 // its type, and the borrow rules keep what is written apart from all else.
 
 /// How many bytes a state has.
+#[must_use]
 pub fn state_bytes() -> u64 {
     // SAFETY: it takes nothing and answers a number.
     unsafe { c::wallathi_state_bytes() }
 }
 
 /// Makes the store one without messages and groups, whatever the bytes were.
+#[must_use]
 pub fn set_up(store: &mut [u8], state: &mut State) -> u32 {
     // SAFETY: see above.
     unsafe { c::wallathi_set_up(store.as_mut_ptr(), store.len(), state.as_mut_ptr()) }
 }
 
 /// Adds a message with an ID above the last one.
+#[must_use]
 pub fn add(
     store: &mut [u8],
     state: &mut State,
@@ -228,6 +230,7 @@ pub fn add(
 }
 
 /// Adds a message at a time in ms.
+#[must_use]
 pub fn add_by_clock(
     store: &mut [u8],
     state: &mut State,
@@ -252,18 +255,21 @@ pub fn add_by_clock(
 }
 
 /// Deletes a message; the count is 1, or 0 where the ID is not live.
+#[must_use]
 pub fn delete(store: &mut [u8], state: &mut State, ms: u64, seq: u64, count: &mut u64) -> u32 {
     // SAFETY: see above.
     unsafe { c::wallathi_delete(store.as_mut_ptr(), store.len(), state.as_mut_ptr(), ms, seq, count) }
 }
 
 /// Deletes the oldest messages until at most so many remain; the count is how many went.
+#[must_use]
 pub fn trim(store: &mut [u8], state: &mut State, most: u64, count: &mut u64) -> u32 {
     // SAFETY: see above.
     unsafe { c::wallathi_trim(store.as_mut_ptr(), store.len(), state.as_mut_ptr(), most, count) }
 }
 
 /// The first live ID that is the given one or comes after it.
+#[must_use]
 pub fn next(store: &[u8], state: &State, ms: u64, seq: u64, values: &mut [u64; 2]) -> u32 {
     let [id_ms, id_seq] = values;
     // SAFETY: see above.
@@ -271,6 +277,7 @@ pub fn next(store: &[u8], state: &State, ms: u64, seq: u64, values: &mut [u64; 2
 }
 
 /// Writes a live message as a slip to the start of the output.
+#[must_use]
 pub fn read(store: &[u8], state: &State, ms: u64, seq: u64, output: &mut [u8], written: &mut u64) -> u32 {
     // SAFETY: see above.
     unsafe {
@@ -288,6 +295,7 @@ pub fn read(store: &[u8], state: &State, ms: u64, seq: u64, output: &mut [u8], w
 }
 
 /// Writes the value of the first pair with this field name.
+#[must_use]
 pub fn field(
     store: &[u8],
     state: &State,
@@ -315,6 +323,7 @@ pub fn field(
 }
 
 /// Creates a group that has what comes after the start ID delivered.
+#[must_use]
 pub fn create_group(store: &[u8], state: &mut State, group: &[u8], start_ms: u64, start_seq: u64) -> u32 {
     // SAFETY: see above.
     unsafe {
@@ -331,6 +340,7 @@ pub fn create_group(store: &[u8], state: &mut State, group: &[u8], start_ms: u64
 }
 
 /// Destroys a group with its consumers and pending entries.
+#[must_use]
 pub fn destroy_group(store: &[u8], state: &mut State, group: &[u8]) -> u32 {
     // SAFETY: see above.
     unsafe {
@@ -345,6 +355,7 @@ pub fn destroy_group(store: &[u8], state: &mut State, group: &[u8]) -> u32 {
 }
 
 /// Delivers the first live message above the last delivered one to a consumer.
+#[must_use]
 pub fn group_read(
     store: &[u8],
     state: &mut State,
@@ -372,6 +383,7 @@ pub fn group_read(
 }
 
 /// Removes a pending entry; the count is 1, or 0 where the ID is not pending.
+#[must_use]
 pub fn acknowledge(store: &[u8], state: &mut State, group: &[u8], ms: u64, seq: u64, count: &mut u64) -> u32 {
     // SAFETY: see above.
     unsafe {
@@ -389,6 +401,7 @@ pub fn acknowledge(store: &[u8], state: &mut State, group: &[u8], ms: u64, seq: 
 }
 
 /// Moves a pending entry to a consumer, where it is idle for long enough.
+#[must_use]
 #[allow(clippy::too_many_arguments)]
 pub fn claim(
     store: &[u8],
@@ -419,6 +432,7 @@ pub fn claim(
 }
 
 /// A consumer's first pending entry above an ID, and whether its message lives.
+#[must_use]
 pub fn next_pending(
     store: &[u8],
     state: &State,
@@ -451,6 +465,7 @@ pub fn next_pending(
 }
 
 /// Removes a consumer; the count is how many entries went.
+#[must_use]
 pub fn drop_consumer(store: &[u8], state: &mut State, group: &[u8], consumer: &[u8], count: &mut u64) -> u32 {
     // SAFETY: see above.
     unsafe {
@@ -468,6 +483,7 @@ pub fn drop_consumer(store: &[u8], state: &mut State, group: &[u8], consumer: &[
 }
 
 /// Writes a snapshot to the start of the output.
+#[must_use]
 pub fn save(store: &[u8], state: &State, output: &mut [u8], written: &mut u64) -> u32 {
     // SAFETY: see above.
     unsafe {
@@ -483,6 +499,7 @@ pub fn save(store: &[u8], state: &State, output: &mut [u8], written: &mut u64) -
 }
 
 /// Makes the store hold what a snapshot holds, whatever the bytes were.
+#[must_use]
 pub fn load(store: &mut [u8], state: &mut State, file: &[u8]) -> u32 {
     // SAFETY: see above.
     unsafe {

@@ -1,64 +1,85 @@
 //! Refusals, by the number and the text of the rules.
 
-use std::fmt;
+use core::error::Error;
+use core::fmt;
 
-/// Why a command was refused. Nothing has changed then.
+/// Why a command was refused. Nothing has changed then. Later versions may refuse for further reasons.
 #[derive(Clone, Copy, Debug, PartialEq, Eq, Hash)]
+#[non_exhaustive]
 pub enum Refusal {
+    /// 1: the store is shorter than one slot (set up, load).
     NoSlot,
+    /// 2: store and state are the image of no messages and groups: damaged, or never set up.
     Damaged,
+    /// 3: a slip is none, or a name does not have its length.
     BadArgument,
+    /// 4: the ID is not above the last one.
     LowId,
+    /// 5: no ID is left above the last one.
     NoIdLeft,
+    /// 6: the message is too long for a slot.
     LongMessage,
+    /// 7: the message needs a slot of its own and none is free.
     Full,
+    /// 8: the output is shorter than the answer.
     ShortOutput,
+    /// 9: there is no such group.
     NoGroup,
+    /// 10: the group exists.
     GroupExists,
+    /// 11: there are 8 groups.
     MostGroups,
+    /// 12: the consumer is new and there are 16.
     MostConsumers,
+    /// 13: 256 entries are pending.
     MostPending,
+    /// 14: no live message has this ID.
     NotLive,
+    /// 15: the snapshot would need over 64 nodes.
     MostNodes,
+    /// 16: the file is not a snapshot.
     NoSnapshot,
+    /// 17: the snapshot has more nodes than the store has slots.
     SmallStore,
 }
 
-use Refusal::*;
-
 /// By their numbers, from 1.
 const ALL: [(Refusal, &str); 17] = [
-    (NoSlot, "the store is shorter than one slot of 4,096 bytes"),
-    (Damaged, "store and state are not the image of any ledger: damaged, or never set up"),
-    (BadArgument, "a slip, a name or a key breaks its rule"),
-    (LowId, "the ID is not above the last ID"),
-    (NoIdLeft, "the last ID is the greatest, and the time is not above its ms"),
-    (LongMessage, "the message is too large: a node of it alone exceeds 4,095 bytes"),
-    (Full, "the store is full: a new node is needed and no slot is free"),
-    (ShortOutput, "the output is shorter than the answer"),
-    (NoGroup, "no such group"),
-    (GroupExists, "the group exists"),
-    (MostGroups, "there are 8 groups already"),
-    (MostConsumers, "the group has 16 consumers already"),
-    (MostPending, "the group has 256 pending entries already"),
-    (NotLive, "no live message has this ID"),
-    (MostNodes, "the snapshot would need over 64 nodes"),
-    (NoSnapshot, "the file is not a snapshot"),
-    (SmallStore, "the snapshot has more nodes than the store has slots"),
+    (Refusal::NoSlot, "the store is shorter than one slot of 4,096 bytes"),
+    (Refusal::Damaged, "store and state are not the image of any ledger: damaged, or never set up"),
+    (Refusal::BadArgument, "a slip, a name or a key breaks its rule"),
+    (Refusal::LowId, "the ID is not above the last ID"),
+    (Refusal::NoIdLeft, "the last ID is the greatest, and the time is not above its ms"),
+    (Refusal::LongMessage, "the message is too large: a node of it alone exceeds 4,095 bytes"),
+    (Refusal::Full, "the store is full: a new node is needed and no slot is free"),
+    (Refusal::ShortOutput, "the output is shorter than the answer"),
+    (Refusal::NoGroup, "no such group"),
+    (Refusal::GroupExists, "the group exists"),
+    (Refusal::MostGroups, "there are 8 groups already"),
+    (Refusal::MostConsumers, "the group has 16 consumers already"),
+    (Refusal::MostPending, "the group has 256 pending entries already"),
+    (Refusal::NotLive, "no live message has this ID"),
+    (Refusal::MostNodes, "the snapshot would need over 64 nodes"),
+    (Refusal::NoSnapshot, "the file is not a snapshot"),
+    (Refusal::SmallStore, "the snapshot has more nodes than the store has slots"),
 ];
 
 impl Refusal {
     /// The number in the rules' table, 1 to 17.
+    #[must_use]
     pub fn number(self) -> u32 {
         1 + self as u32
     }
 
     /// The refusal of a number; none for a number that is no refusal of the store.
+    #[must_use]
     pub fn from_number(number: u32) -> Option<Refusal> {
         let place = usize::try_from(number).ok()?.checked_sub(1)?;
         ALL.get(place).map(|&(refusal, _)| refusal)
     }
 
+    /// What it says, without its number.
+    #[must_use]
     pub fn text(self) -> &'static str {
         ALL[self as usize].1
     }
@@ -70,7 +91,7 @@ impl fmt::Display for Refusal {
     }
 }
 
-impl std::error::Error for Refusal {}
+impl Error for Refusal {}
 
 #[cfg(test)]
 mod tests {

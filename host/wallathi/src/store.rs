@@ -1,9 +1,14 @@
 //! The store: commands on bytes that are owned or borrowed.
 
-use std::borrow::{Borrow, BorrowMut};
+use core::borrow::{Borrow, BorrowMut};
 
-use crate::raw::{self, State, STATE_BYTES};
-use crate::{Id, Refusal, Slip};
+#[cfg(feature = "alloc")]
+use alloc::{boxed::Box, vec, vec::Vec};
+
+use crate::raw::{self, State};
+use crate::{Id, Refusal, SlipRef};
+#[cfg(feature = "alloc")]
+use crate::{Slip, LONGEST_STRING, STATE_BYTES};
 
 /// How many bytes a slot has.
 pub const SLOT_BYTES: usize = 4096;
@@ -11,11 +16,11 @@ pub const SLOT_BYTES: usize = 4096;
 /// More slots than these are never used.
 pub const MOST_SLOTS: usize = 64;
 
-/// No slip of a message that a store holds is longer.
-const LONGEST_SLIP: usize = 5353;
+/// No slip of a message that a store holds is longer: an output of this length suffices for every read.
+pub const LONGEST_SLIP: usize = 5353;
 
-/// No snapshot is longer.
-const LONGEST_SNAPSHOT: usize = 321_604;
+/// No snapshot is longer: an output of this length suffices for every save.
+pub const LONGEST_SNAPSHOT: usize = 321_604;
 
 /// A store and its state. `S` and `T` own the bytes or borrow them: [`Owned`], [`Borrowed`].
 ///
@@ -40,6 +45,7 @@ pub struct Store<S, T> {
 }
 
 /// A store that owns its bytes.
+#[cfg(feature = "alloc")]
 pub type Owned = Store<Vec<u8>, Box<State>>;
 
 /// A store in bytes that somebody else owns.
@@ -48,6 +54,7 @@ pub type Borrowed<'a> = Store<&'a mut [u8], &'a mut State>;
 /// A pending entry of a consumer.
 #[derive(Clone, Copy, Debug, PartialEq, Eq)]
 pub struct Pending {
+    /// The ID of the message.
     pub id: Id,
     /// When it was delivered last.
     pub time: u64,
@@ -77,10 +84,24 @@ fn id_of([ms, seq]: [u64; 2]) -> Id {
     Id::new(ms, seq)
 }
 
+/// A length that the library wrote: at most the output's.
+#[allow(clippy::cast_possible_truncation)]
+fn length_of(written: u64) -> usize {
+    written as usize
+}
+
+#[cfg(feature = "alloc")]
 impl Owned {
-    /// A fresh store of so many slots. Refusal 1 for none.
+    /// A fresh store of so many slots, 64 at most.
+    ///
+    /// # Errors
+    ///
+    /// [`Refusal::NoSlot`] for none.
     pub fn new(slots: usize) -> Result<Owned, Refusal> {
-        let mut store = Store { store: vec![0; slots * SLOT_BYTES], state: Box::new([0; STATE_BYTES]) };
+        let store = vec![0; slots.min(MOST_SLOTS) * SLOT_BYTES];
+        let state = vec![0; STATE_BYTES].into_boxed_slice().try_into();
+        let mut store =
+            Store { store, state: state.unwrap_or_else(|_| unreachable!("the length of a state")) };
         store.set_up()?;
         Ok(store)
     }
@@ -88,63 +109,92 @@ impl Owned {
 
 impl<S, T> Store<S, T> {
     /// Bytes as they are: set up, load, or whatever was kept of an earlier store. Every command judges them first.
+    #[must_use]
     pub fn from_parts(store: S, state: T) -> Store<S, T> {
         Store { store, state }
     }
 
+    /// The bytes of the store and of the state, to keep.
+    #[must_use]
     pub fn into_parts(self) -> (S, T) {
         (self.store, self.state)
     }
 }
 
-/// What only reads.
+/// What only reads. Each command judges store and state first: [`Refusal::Damaged`] where they are no image.
 impl<S: Borrow<[u8]>, T: Borrow<State>> Store<S, T> {
     /// The first live ID at or above an ID.
+    ///
+    /// # Errors
+    ///
+    /// [`Refusal::Damaged`].
     pub fn next(&self, from: Id) -> Result<Option<Id>, Refusal> {
         let mut id = [0; 2];
         let code = raw::next(self.store.borrow(), self.state.borrow(), from.ms, from.seq, &mut id);
         found(code, raw::NONE, id_of(id))
     }
 
-    /// A live message. Refusal 14 where there is none of that ID.
+    /// A live message.
+    ///
+    /// # Errors
+    ///
+    /// [`Refusal::Damaged`]; [`Refusal::NotLive`] where there is none of that ID.
+    #[cfg(feature = "alloc")]
     pub fn read(&self, id: Id) -> Result<Slip, Refusal> {
-        let mut out = vec![0; LONGEST_SLIP];
+        let mut out = [0; LONGEST_SLIP];
         let length = self.read_into(id, &mut out)?;
-        out.truncate(length);
-        Slip::from_bytes(out)
+        Ok(Slip::as_written(&out[..length]))
     }
 
-    /// The same as the slip's bytes at the start of `out`; the answer is their number. Refusal 8 where `out` is shorter.
+    /// A live message as the bytes of a slip at the start of `out`; the answer is their number.
+    ///
+    /// # Errors
+    ///
+    /// [`Refusal::Damaged`]; [`Refusal::ShortOutput`] where `out` is shorter; [`Refusal::NotLive`] where there is none of that ID.
     pub fn read_into(&self, id: Id, out: &mut [u8]) -> Result<usize, Refusal> {
         let mut length = 0;
         answered(raw::read(self.store.borrow(), self.state.borrow(), id.ms, id.seq, out, &mut length))?;
-        Ok(length as usize)
+        Ok(length_of(length))
     }
 
     /// The value of the first pair with that name; none where the message lacks it, which is neither zero nor empty.
+    ///
+    /// # Errors
+    ///
+    /// [`Refusal::Damaged`]; [`Refusal::BadArgument`] for a name of over 1,000 bytes; [`Refusal::NotLive`].
+    #[cfg(feature = "alloc")]
     pub fn field(&self, id: Id, name: &[u8]) -> Result<Option<Vec<u8>>, Refusal> {
-        let mut out = vec![0; Slip::LONGEST_STRING];
+        let mut out = [0; LONGEST_STRING];
         let length = self.field_into(id, name, &mut out)?;
-        Ok(length.map(|length| {
-            out.truncate(length);
-            out
-        }))
+        Ok(length.map(|length| out[..length].to_vec()))
     }
 
     /// The same at the start of `out`; the answer is its length.
+    ///
+    /// # Errors
+    ///
+    /// [`Refusal::Damaged`]; [`Refusal::BadArgument`] for a name of over 1,000 bytes; [`Refusal::ShortOutput`] where `out` is shorter;
+    /// [`Refusal::NotLive`].
     pub fn field_into(&self, id: Id, name: &[u8], out: &mut [u8]) -> Result<Option<usize>, Refusal> {
         let mut length = 0;
         let code =
             raw::field(self.store.borrow(), self.state.borrow(), id.ms, id.seq, name, out, &mut length);
-        found(code, raw::ABSENT, length as usize)
+        found(code, raw::ABSENT, length_of(length))
     }
 
     /// The live messages from an ID on, in rising order. A refusal ends it.
+    ///
+    /// Each message is read once. It costs two judgements of store and state, one for its ID and one for its pairs.
+    #[cfg(feature = "alloc")]
     pub fn messages(&self, from: Id) -> Messages<'_, S, T> {
         Messages { store: self, from: Some(from) }
     }
 
     /// A consumer's next pending entry above an ID; none also for an unknown consumer.
+    ///
+    /// # Errors
+    ///
+    /// [`Refusal::Damaged`]; [`Refusal::BadArgument`] for a name that does not have 1 to 16 bytes; [`Refusal::NoGroup`].
     pub fn next_pending(&self, group: &[u8], consumer: &[u8], after: Id) -> Result<Option<Pending>, Refusal> {
         let mut values = [0; 5];
         let (store, state) = (self.store.borrow(), self.state.borrow());
@@ -153,55 +203,86 @@ impl<S: Borrow<[u8]>, T: Borrow<State>> Store<S, T> {
         found(code, raw::NONE, Pending { id: Id::new(ms, seq), time, count, lives: lives == 1 })
     }
 
-    /// A consumer's pending entries, in rising order. A refusal ends it.
+    /// A consumer's pending entries, in rising order. A refusal ends it. Each entry costs a judgement of store and state.
     pub fn pending<'a>(&'a self, group: &'a [u8], consumer: &'a [u8]) -> PendingEntries<'a, S, T> {
         PendingEntries { store: self, group, consumer, after: Some(Id::LEAST) }
     }
 
     /// The snapshot: equal byte for byte exactly for equal messages, last ID and groups.
+    ///
+    /// # Errors
+    ///
+    /// [`Refusal::Damaged`]; [`Refusal::MostNodes`] where it would need over 64 nodes.
+    #[cfg(feature = "alloc")]
     pub fn save(&self) -> Result<Vec<u8>, Refusal> {
         let mut out = vec![0; LONGEST_SNAPSHOT];
         let length = self.save_into(&mut out)?;
         out.truncate(length);
+        out.shrink_to_fit();
         Ok(out)
     }
 
     /// The same at the start of `out`; the answer is its length.
+    ///
+    /// # Errors
+    ///
+    /// [`Refusal::Damaged`]; [`Refusal::ShortOutput`] where `out` is shorter; [`Refusal::MostNodes`] where it would need over 64 nodes.
     pub fn save_into(&self, out: &mut [u8]) -> Result<usize, Refusal> {
         let mut length = 0;
         answered(raw::save(self.store.borrow(), self.state.borrow(), out, &mut length))?;
-        Ok(length as usize)
+        Ok(length_of(length))
     }
 }
 
 /// What changes the messages.
 impl<S: BorrowMut<[u8]>, T: BorrowMut<State>> Store<S, T> {
     /// An empty store with last ID 0-0, whatever the bytes were.
+    ///
+    /// # Errors
+    ///
+    /// [`Refusal::NoSlot`].
     pub fn set_up(&mut self) -> Result<(), Refusal> {
         answered(raw::set_up(self.store.borrow_mut(), self.state.borrow_mut()))
     }
 
-    /// The ledger of a snapshot, whatever the bytes were. A refused file changes nothing.
+    /// What a snapshot holds, whatever the bytes were. A refused file changes nothing.
+    ///
+    /// # Errors
+    ///
+    /// [`Refusal::NoSlot`]; [`Refusal::NoSnapshot`]; [`Refusal::SmallStore`] where it has more nodes than the store has slots.
     pub fn load(&mut self, file: &[u8]) -> Result<(), Refusal> {
         answered(raw::load(self.store.borrow_mut(), self.state.borrow_mut(), file))
     }
 
-    pub fn add(&mut self, id: Id, slip: &Slip) -> Result<Id, Refusal> {
+    /// Adds a message with an ID above the last one, which it then is.
+    ///
+    /// # Errors
+    ///
+    /// [`Refusal::Damaged`]; [`Refusal::LowId`]; [`Refusal::LongMessage`]; [`Refusal::Full`].
+    pub fn add<'a>(&mut self, id: Id, slip: impl Into<SlipRef<'a>>) -> Result<Id, Refusal> {
         let mut given = [0; 2];
         let (store, state) = (self.store.borrow_mut(), self.state.borrow_mut());
-        answered(raw::add(store, state, id.ms, id.seq, slip.as_bytes(), &mut given))?;
+        answered(raw::add(store, state, id.ms, id.seq, slip.into().as_bytes(), &mut given))?;
         Ok(id_of(given))
     }
 
-    /// The ID is (time, 0), or the one that follows the last ID where the clock did not go on.
-    pub fn add_by_clock(&mut self, time: u64, slip: &Slip) -> Result<Id, Refusal> {
+    /// Adds a message at a time. Its ID is (time, 0), or the one that follows the last ID where the clock did not go on.
+    ///
+    /// # Errors
+    ///
+    /// [`Refusal::Damaged`]; [`Refusal::NoIdLeft`]; [`Refusal::LongMessage`]; [`Refusal::Full`].
+    pub fn add_by_clock<'a>(&mut self, time: u64, slip: impl Into<SlipRef<'a>>) -> Result<Id, Refusal> {
         let mut given = [0; 2];
         let (store, state) = (self.store.borrow_mut(), self.state.borrow_mut());
-        answered(raw::add_by_clock(store, state, time, slip.as_bytes(), &mut given))?;
+        answered(raw::add_by_clock(store, state, time, slip.into().as_bytes(), &mut given))?;
         Ok(id_of(given))
     }
 
-    /// Whether there was a message to delete. Pending entries stay.
+    /// Deletes a message, and says whether there was one. Pending entries stay.
+    ///
+    /// # Errors
+    ///
+    /// [`Refusal::Damaged`].
     pub fn delete(&mut self, id: Id) -> Result<bool, Refusal> {
         let mut count = 0;
         answered(raw::delete(self.store.borrow_mut(), self.state.borrow_mut(), id.ms, id.seq, &mut count))?;
@@ -209,6 +290,10 @@ impl<S: BorrowMut<[u8]>, T: BorrowMut<State>> Store<S, T> {
     }
 
     /// Deletes the oldest until at most `keep` remain; how many went.
+    ///
+    /// # Errors
+    ///
+    /// [`Refusal::Damaged`].
     pub fn trim(&mut self, keep: u64) -> Result<u64, Refusal> {
         let mut count = 0;
         answered(raw::trim(self.store.borrow_mut(), self.state.borrow_mut(), keep, &mut count))?;
@@ -216,18 +301,32 @@ impl<S: BorrowMut<[u8]>, T: BorrowMut<State>> Store<S, T> {
     }
 }
 
-/// What changes the groups.
+/// What changes the groups. [`Refusal::BadArgument`] is for a name that does not have 1 to 16 bytes.
 impl<S: Borrow<[u8]>, T: BorrowMut<State>> Store<S, T> {
+    /// Creates a group to which what comes after the start ID is delivered.
+    ///
+    /// # Errors
+    ///
+    /// [`Refusal::Damaged`]; [`Refusal::BadArgument`]; [`Refusal::GroupExists`]; [`Refusal::MostGroups`].
     pub fn create_group(&mut self, group: &[u8], start: Id) -> Result<(), Refusal> {
         let (store, state) = (self.store.borrow(), self.state.borrow_mut());
         answered(raw::create_group(store, state, group, start.ms, start.seq))
     }
 
+    /// Destroys a group with its consumers and pending entries.
+    ///
+    /// # Errors
+    ///
+    /// [`Refusal::Damaged`]; [`Refusal::BadArgument`]; [`Refusal::NoGroup`].
     pub fn destroy_group(&mut self, group: &[u8]) -> Result<(), Refusal> {
         answered(raw::destroy_group(self.store.borrow(), self.state.borrow_mut(), group))
     }
 
     /// The first live ID above the last delivered, now pending for the consumer; none where nothing is new.
+    ///
+    /// # Errors
+    ///
+    /// [`Refusal::Damaged`]; [`Refusal::BadArgument`]; [`Refusal::NoGroup`]; [`Refusal::MostConsumers`]; [`Refusal::MostPending`].
     pub fn group_read(&mut self, group: &[u8], consumer: &[u8], now: u64) -> Result<Option<Id>, Refusal> {
         let mut id = [0; 2];
         let code =
@@ -235,7 +334,11 @@ impl<S: Borrow<[u8]>, T: BorrowMut<State>> Store<S, T> {
         found(code, raw::NONE, id_of(id))
     }
 
-    /// Whether the ID was pending.
+    /// Removes a pending entry, and says whether there was one.
+    ///
+    /// # Errors
+    ///
+    /// [`Refusal::Damaged`]; [`Refusal::BadArgument`]; [`Refusal::NoGroup`].
     pub fn acknowledge(&mut self, group: &[u8], id: Id) -> Result<bool, Refusal> {
         let mut count = 0;
         let (store, state) = (self.store.borrow(), self.state.borrow_mut());
@@ -243,7 +346,11 @@ impl<S: Borrow<[u8]>, T: BorrowMut<State>> Store<S, T> {
         Ok(count == 1)
     }
 
-    /// Whether the entry moved: it is pending, and idle for at least `least_idle`.
+    /// Moves a pending entry to the consumer where it is idle for at least `least_idle`, and says whether it did.
+    ///
+    /// # Errors
+    ///
+    /// [`Refusal::Damaged`]; [`Refusal::BadArgument`]; [`Refusal::NoGroup`]; [`Refusal::MostConsumers`].
     pub fn claim(
         &mut self,
         group: &[u8],
@@ -257,7 +364,11 @@ impl<S: Borrow<[u8]>, T: BorrowMut<State>> Store<S, T> {
         Ok(found(code, raw::NOT_MOVED, ())?.is_some())
     }
 
-    /// How many entries went with the consumer.
+    /// Removes a consumer; how many entries went with it.
+    ///
+    /// # Errors
+    ///
+    /// [`Refusal::Damaged`]; [`Refusal::BadArgument`]; [`Refusal::NoGroup`].
     pub fn drop_consumer(&mut self, group: &[u8], consumer: &[u8]) -> Result<u64, Refusal> {
         let mut count = 0;
         let (store, state) = (self.store.borrow(), self.state.borrow_mut());
@@ -266,13 +377,16 @@ impl<S: Borrow<[u8]>, T: BorrowMut<State>> Store<S, T> {
     }
 }
 
-/// Live messages, in rising order of their IDs.
+/// Live messages, in rising order of their IDs ([`Store::messages`]).
+#[cfg(feature = "alloc")]
 #[derive(Clone, Debug)]
+#[must_use = "messages are read as they are asked for"]
 pub struct Messages<'a, S, T> {
     store: &'a Store<S, T>,
     from: Option<Id>,
 }
 
+#[cfg(feature = "alloc")]
 impl<S: Borrow<[u8]>, T: Borrow<State>> Iterator for Messages<'_, S, T> {
     type Item = Result<(Id, Slip), Refusal>;
 
@@ -289,8 +403,9 @@ impl<S: Borrow<[u8]>, T: Borrow<State>> Iterator for Messages<'_, S, T> {
     }
 }
 
-/// Pending entries of a consumer, in rising order of their IDs.
+/// Pending entries of a consumer, in rising order of their IDs ([`Store::pending`]).
 #[derive(Clone, Debug)]
+#[must_use = "entries are read as they are asked for"]
 pub struct PendingEntries<'a, S, T> {
     store: &'a Store<S, T>,
     group: &'a [u8],

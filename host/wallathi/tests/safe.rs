@@ -1,6 +1,7 @@
 //! The safe crate, as a Rust user meets it.
+#![cfg(feature = "alloc")]
 
-use wallathi::{Borrowed, Id, Owned, Pending, Refusal, Slip, STATE_BYTES};
+use wallathi::{Borrowed, Id, Owned, Pending, Refusal, Slip, SLOT_BYTES, STATE_BYTES};
 
 fn slip(field: &str, value: &str) -> Slip {
     Slip::of([(field, value)]).unwrap()
@@ -70,6 +71,13 @@ fn save_and_load_in_borrowed_bytes() {
     assert_eq!(other.save().unwrap(), file);
     assert_eq!(other.save_into(&mut [0; 30]), Err(Refusal::ShortOutput));
     assert_eq!(bytes[2 * 4096..], [255; 5]);
+}
+
+#[test]
+fn at_most_64_slots() {
+    for (slots, made) in [(1, 1), (64, 64), (65, 64), (usize::MAX, 64)] {
+        assert_eq!(Owned::new(slots).unwrap().into_parts().0.len(), made * SLOT_BYTES);
+    }
 }
 
 #[test]

@@ -5,7 +5,9 @@ use borrow.Author.Needs.{needs}
 use borrow.Author.Tests.{not-true, not-false}
 use Rattle.octets.specs.Bytes.{Bytes}
 use Rattle.groups.specs.Answer.{SoundRegion}
-use Rattle.bench_groups.specs.Answer.{soundIn, isShort, claimedNumber}
+use Rattle.groups_change.specs.declared.Claimed.{Claimed}
+use Rattle.groups_change.specs.Number.{claimedRefusal, isMoved}
+use Rattle.bench_groups.specs.Answer.{soundIn, isShort, claimNumber}
 use Rattle.bench_groups.proofs.Answers.{region-sound, short-is, claim-bad, claim-name, claim-by}
 use Rattle.bench_groups.proofs.wallathi_bench_claim.Statement.{statement}
 use Rattle.bench_groups.proofs.wallathi_bench_claim.Tie as tie
@@ -40,17 +42,17 @@ wallathi-bench-claim-spec =
     (λ c.
     let d = c .before .before .before .before in
     let s = d .before .before in
-    let r = claim-by _ _ _ _ _ (sound (s .before .before)) (short s) (d .claim .result) (d .claim .ensures .0) in
-    (sym (ap claimedNumber (c .enum-told .given .1)) ∙ r .0, d .claim .ensures .1 ∙ r .1))
+    let r = claim-by _ _ _ _ _ (sound (s .before .before)) (short s) (claimedRefusal (d .claim .result)) (isMoved (d .claim .result)) (d .claim .ensures .0) (d .claim .ensures .1) in
+    (sym (ap (λ (r : Claimed). claimNumber (claimedRefusal r) (isMoved r)) (c .enum-told .given .1)) ∙ r .0, d .claim .ensures .2 ∙ r .1))
     (λ c. search needs)
     (λ c.
     let d = c .before .before .before .before in
     let s = d .before .before in
-    let r = claim-by _ _ _ _ _ (sound (s .before .before)) (short s) (d .claim .result) (d .claim .ensures .0) in
-    (sym (ap claimedNumber (c .enum-told2 .given .1)) ∙ r .0, d .claim .ensures .1 ∙ r .1))
+    let r = claim-by _ _ _ _ _ (sound (s .before .before)) (short s) (claimedRefusal (d .claim .result)) (isMoved (d .claim .result)) (d .claim .ensures .0) (d .claim .ensures .1) in
+    (sym (ap (λ (r : Claimed). claimNumber (claimedRefusal r) (isMoved r)) (c .enum-told2 .given .1)) ∙ r .0, d .claim .ensures .2 ∙ r .1))
     (λ c. search needs)
     (λ c.
     let d = c .before .before .before .before .before in
     let s = d .before .before in
-    let r = claim-by _ _ _ _ _ (sound (s .before .before)) (short s) (d .claim .result) (d .claim .ensures .0) in
-    (sym (ap claimedNumber (c .before .n .given .1)) ∙ r .0, d .claim .ensures .1 ∙ r .1)))
+    let r = claim-by _ _ _ _ _ (sound (s .before .before)) (short s) (claimedRefusal (d .claim .result)) (isMoved (d .claim .result)) (d .claim .ensures .0) (d .claim .ensures .1) in
+    (sym (ap (λ (r : Claimed). claimNumber (claimedRefusal r) (isMoved r)) (c .before .n .given .1)) ∙ r .0, d .claim .ensures .2 ∙ r .1)))

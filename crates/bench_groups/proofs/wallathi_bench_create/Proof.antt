@@ -5,7 +5,9 @@ use borrow.Author.Needs.{needs}
 use borrow.Author.Tests.{not-true, not-false}
 use Rattle.octets.specs.Bytes.{Bytes}
 use Rattle.group_area.specs.Answer.{SoundArea}
-use Rattle.bench_groups.specs.Answer.{areaSound, isShort, createdNumber}
+use Rattle.group_area.specs.declared.Created.{Created}
+use Rattle.group_area.specs.Number.{createdRefusal}
+use Rattle.bench_groups.specs.Answer.{areaSound, isShort, numberOf}
 use Rattle.bench_groups.proofs.Answers.{area-sound, area-judged, short-is, create-bad, create-name, create-by}
 use Rattle.bench_groups.proofs.wallathi_bench_create.Statement.{statement}
 use Rattle.bench_groups.proofs.wallathi_bench_create.Tie as tie
@@ -39,11 +41,11 @@ wallathi-bench-create-spec =
     (λ c.
     let d = c .before .before .before .before in
     let s = d .before .before in
-    let r = create-by _ _ _ (sound (s .before .before)) (short s) (d .create .result) (d .create .ensures .0) in
-    (sym (ap createdNumber (c .enum-told .given .1)) ∙ r .0, d .create .ensures .1 ∙ r .1))
+    let r = create-by _ _ _ (sound (s .before .before)) (short s) (createdRefusal (d .create .result)) (d .create .ensures .0) in
+    (sym (ap (λ (r : Created). numberOf (createdRefusal r)) (c .enum-told .given .1)) ∙ r .0, d .create .ensures .1 ∙ r .1))
     (λ c. search needs)
     (λ c.
     let d = c .before .before .before .before .before in
     let s = d .before .before in
-    let r = create-by _ _ _ (sound (s .before .before)) (short s) (d .create .result) (d .create .ensures .0) in
-    (sym (ap createdNumber (c .before .n .given .1)) ∙ r .0, d .create .ensures .1 ∙ r .1)))
+    let r = create-by _ _ _ (sound (s .before .before)) (short s) (createdRefusal (d .create .result)) (d .create .ensures .0) in
+    (sym (ap (λ (r : Created). numberOf (createdRefusal r)) (c .before .n .given .1)) ∙ r .0, d .create .ensures .1 ∙ r .1)))

@@ -8,7 +8,9 @@ use Rattle.id.specs.declared.Id.{Id}
 use Rattle.id.specs.Id.{idOf, below}
 use Rattle.groups.specs.Parse.{groupIn}
 use Rattle.groups.specs.Answer.{SoundRegion}
-use Rattle.bench_groups.specs.Answer.{soundIn, isShort, deliveryNumber}
+use Rattle.groups_change.specs.declared.Delivery.{Delivery}
+use Rattle.groups_change.specs.Number.{deliveryRefusal}
+use Rattle.bench_groups.specs.Answer.{soundIn, isShort, numberOf}
 use Rattle.bench_groups.proofs.Answers.{region-sound, short-is, deliver-bad, deliver-name, deliver-old, deliver-by}
 use Rattle.bench_groups.proofs.wallathi_bench_deliver.Statement.{statement}
 use Rattle.bench_groups.proofs.wallathi_bench_deliver.Tie as tie
@@ -58,12 +60,12 @@ wallathi-bench-deliver-spec =
     let d = c .before .before .before .before in
     let e = d .before .before in
     let s = e .before .before .before .before in
-    let r = deliver-by _ _ _ _ (sound (s .before .before)) (short s) (above e) (d .deliver .result) (d .deliver .ensures .0) in
-    (sym (ap deliveryNumber (c .enum-told .given .1)) ∙ r .0, d .deliver .ensures .1 ∙ r .1))
+    let r = deliver-by _ _ _ _ (sound (s .before .before)) (short s) (above e) (deliveryRefusal (d .deliver .result)) (d .deliver .ensures .0) in
+    (sym (ap (λ (r : Delivery). numberOf (deliveryRefusal r)) (c .enum-told .given .1)) ∙ r .0, d .deliver .ensures .1 ∙ r .1))
     (λ c. search needs)
     (λ c.
     let d = c .before .before .before .before .before in
     let e = d .before .before in
     let s = e .before .before .before .before in
-    let r = deliver-by _ _ _ _ (sound (s .before .before)) (short s) (above e) (d .deliver .result) (d .deliver .ensures .0) in
-    (sym (ap deliveryNumber (c .before .n .given .1)) ∙ r .0, d .deliver .ensures .1 ∙ r .1)))
+    let r = deliver-by _ _ _ _ (sound (s .before .before)) (short s) (above e) (deliveryRefusal (d .deliver .result)) (d .deliver .ensures .0) in
+    (sym (ap (λ (r : Delivery). numberOf (deliveryRefusal r)) (c .before .n .given .1)) ∙ r .0, d .deliver .ensures .1 ∙ r .1)))

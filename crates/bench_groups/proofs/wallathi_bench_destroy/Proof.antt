@@ -5,7 +5,9 @@ use borrow.Author.Needs.{needs}
 use borrow.Author.Tests.{not-true, not-false}
 use Rattle.octets.specs.Bytes.{Bytes}
 use Rattle.group_area.specs.Answer.{SoundArea}
-use Rattle.bench_groups.specs.Answer.{areaSound, destroyedNumber}
+use Rattle.group_area.specs.declared.Destroyed.{Destroyed}
+use Rattle.group_area.specs.Number.{destroyedRefusal}
+use Rattle.bench_groups.specs.Answer.{areaSound, numberOf}
 use Rattle.bench_groups.proofs.Answers.{area-sound, area-judged, destroy-bad, destroy-by}
 use Rattle.bench_groups.proofs.wallathi_bench_destroy.Statement.{statement}
 use Rattle.bench_groups.proofs.wallathi_bench_destroy.Tie as tie
@@ -32,10 +34,10 @@ wallathi-bench-destroy-spec =
     (λ c. search needs)
     (λ c.
     let d = c .before .before .before .before in
-    let r = destroy-by _ _ (sound (d .before .before)) (d .destroy .result) (d .destroy .ensures .0) in
-    (sym (ap destroyedNumber (c .enum-told .given .1)) ∙ r .0, d .destroy .ensures .1 ∙ r .1))
+    let r = destroy-by _ _ (sound (d .before .before)) (destroyedRefusal (d .destroy .result)) (d .destroy .ensures .0) in
+    (sym (ap (λ (r : Destroyed). numberOf (destroyedRefusal r)) (c .enum-told .given .1)) ∙ r .0, d .destroy .ensures .1 ∙ r .1))
     (λ c. search needs)
     (λ c.
     let d = c .before .before .before .before in
-    let r = destroy-by _ _ (sound (d .before .before)) (d .destroy .result) (d .destroy .ensures .0) in
-    (sym (ap destroyedNumber (c .enum-told2 .given .1)) ∙ r .0, d .destroy .ensures .1 ∙ r .1)))
+    let r = destroy-by _ _ (sound (d .before .before)) (destroyedRefusal (d .destroy .result)) (d .destroy .ensures .0) in
+    (sym (ap (λ (r : Destroyed). numberOf (destroyedRefusal r)) (c .enum-told2 .given .1)) ∙ r .0, d .destroy .ensures .1 ∙ r .1)))

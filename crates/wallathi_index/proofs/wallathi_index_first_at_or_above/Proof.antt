@@ -18,13 +18,11 @@ wallathi-index-first-at-or-above-spec =
     (tie.spec
     (λ c κs. search needs)
     (λ c κs.
-    let x = c.before.before.before.before.before.before.before .args in
-    subst⁻¹ (λ (n : Neighbour). n .len ≤ 16) (c.before.before.before .first-at-or-above .ensures) (first-short (x .key .now) (x .bytes .now)))
-    (λ c. search needs)
+    let x = c.before.before.before.before.before.before .args in
+    (subst⁻¹ (λ (n : Neighbour). n .len ≤ 16) (c.before.before.before .first-at-or-above .ensures) (first-short (x .key .now) (x .bytes .now)), search needs))
     (λ c.
-    let c10 = c.before.before.before.before.before.before.before.before.before.before in
-    let x = c10 .args in
-    let t = c.before.before .tell in
-    let n = c.before.before.before.before.before.before .first-at-or-above in
-    subst (λ (r : Reply). Tells r (x .out .now) (x .len .now) (x .value .now) (t .result) (t .last .1 .0) (t .last .1 .1 .0) (t .last .1 .1 .1 .0))
+    let x = c.before.before.before.before.before.before.before .args in
+    let t = c .tell in
+    let n = c.before.before.before.before .first-at-or-above in
+    subst (λ (r : Reply). Tells r (x .output .now) (x .len .now) (x .value .now) (t .result) (t .last .1 .0) (t .last .1 .1 .0) (t .last .1 .1 .1 .0))
     (ap neighbourReply (n .ensures) ∙ first-told (x .key .now) (entriesIn (x .bytes .now))) (t .ensures)))

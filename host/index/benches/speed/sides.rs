@@ -53,19 +53,19 @@ impl Side for Proved {
 
     fn find(&self, key: &[u8]) -> u64 {
         let mut value = NONE;
-        raw::find(&self.record, key, &mut value);
+        let _ = raw::find(&self.record, key, &mut value);
         value
     }
 
     fn first_at_or_above(&self, key: &[u8], output: &mut Output) -> (u64, u64) {
         let (mut length, mut value) = (NONE, NONE);
-        raw::first_at_or_above(&self.record, key, output, &mut length, &mut value);
+        let _ = raw::first_at_or_above(&self.record, key, output, &mut length, &mut value);
         (value, length)
     }
 
     fn last_at_or_below(&self, key: &[u8], output: &mut Output) -> (u64, u64) {
         let (mut length, mut value) = (NONE, NONE);
-        raw::last_at_or_below(&self.record, key, output, &mut length, &mut value);
+        let _ = raw::last_at_or_below(&self.record, key, output, &mut length, &mut value);
         (value, length)
     }
 }

@@ -1,20 +1,20 @@
 //! The library's functions beside the model: one operation, called on a record and on what it holds.
 
 use crate::keys::Kind;
-use wallathi_index::raw;
+use wallathi_index::{raw, LONGEST_KEY};
 use wallathi_model::index::record;
 use wallathi_model::index::{Index, KeyValue};
-use wallathi_model::refusal::{Refusal, NOT_AN_IMAGE, OUTPUT_TOO_SHORT};
+use wallathi_model::refusal::{Refusal, NOT_AN_IMAGE};
 use wallathi_model::rng::Rng;
 
-/// An operation and its arguments; a neighbour's output has `room` bytes.
+/// An operation and its arguments.
 #[derive(Clone, Debug)]
 pub enum Operation {
     Put { key: Vec<u8>, value: u32 },
     Remove { key: Vec<u8> },
     Find { key: Vec<u8> },
-    FirstAtOrAbove { key: Vec<u8>, room: usize },
-    LastAtOrBelow { key: Vec<u8>, room: usize },
+    FirstAtOrAbove { key: Vec<u8> },
+    LastAtOrBelow { key: Vec<u8> },
 }
 
 /// All that a call answers. What it leaves alone is as [`Answer::untouched`] made it.
@@ -25,37 +25,33 @@ pub struct Answer {
     pub count: u64,
     pub value: u64,
     pub length: u64,
-    pub output: Vec<u8>,
+    pub output: [u8; LONGEST_KEY],
 }
 
 impl Answer {
-    fn untouched(operation: &Operation) -> Answer {
+    fn untouched() -> Answer {
         const MARK: u64 = 0xA5A5_A5A5_A5A5_A5A5;
-        let room = match operation {
-            Operation::FirstAtOrAbove { room, .. } | Operation::LastAtOrBelow { room, .. } => *room,
-            _ => 0,
-        };
-        Answer { number: u32::MAX, count: MARK, value: MARK, length: MARK, output: vec![0xA5; room] }
+        Answer { number: u32::MAX, count: MARK, value: MARK, length: MARK, output: [0xA5; LONGEST_KEY] }
     }
 }
 
 /// What the library answers.
 pub fn call(record: &mut [u8], operation: &Operation) -> Answer {
-    let mut answer = Answer::untouched(operation);
+    let mut answer = Answer::untouched();
     let Answer { number, count, value: found, length, output } = &mut answer;
     *number = match operation {
         Operation::Put { key, value } => raw::put(record, key, *value),
         Operation::Remove { key } => raw::remove(record, key, count),
         Operation::Find { key } => raw::find(record, key, found),
-        Operation::FirstAtOrAbove { key, .. } => raw::first_at_or_above(record, key, output, length, found),
-        Operation::LastAtOrBelow { key, .. } => raw::last_at_or_below(record, key, output, length, found),
+        Operation::FirstAtOrAbove { key } => raw::first_at_or_above(record, key, output, length, found),
+        Operation::LastAtOrBelow { key } => raw::last_at_or_below(record, key, output, length, found),
     };
     answer
 }
 
 /// What it must answer by document 01. A record that holds no index is refused.
 pub fn expected(index: &mut Option<Index>, operation: &Operation) -> Answer {
-    let mut answer = Answer::untouched(operation);
+    let mut answer = Answer::untouched();
     answer.number = match index {
         Some(index) => answered(index, operation, &mut answer).unwrap_or_else(|refusal| refusal),
         None => NOT_AN_IMAGE,
@@ -71,16 +67,15 @@ fn answered(index: &mut Index, operation: &Operation, answer: &mut Answer) -> Re
             Some(value) => answer.value = u64::from(value),
             None => return Ok(raw::NONE),
         },
-        Operation::FirstAtOrAbove { key, .. } => return written(index.first_at_or_above(key)?, answer),
-        Operation::LastAtOrBelow { key, .. } => return written(index.last_at_or_below(key)?, answer),
+        Operation::FirstAtOrAbove { key } => return written(index.first_at_or_above(key)?, answer),
+        Operation::LastAtOrBelow { key } => return written(index.last_at_or_below(key)?, answer),
     }
     Ok(raw::OK)
 }
 
 fn written(found: Option<KeyValue>, answer: &mut Answer) -> Result<u32, Refusal> {
     let Some((key, value)) = found else { return Ok(raw::NONE) };
-    let output = answer.output.get_mut(..key.len()).ok_or(OUTPUT_TOO_SHORT)?;
-    output.copy_from_slice(&key);
+    answer.output[..key.len()].copy_from_slice(&key);
     (answer.length, answer.value) = (key.len() as u64, u64::from(value));
     Ok(raw::OK)
 }
@@ -109,22 +104,13 @@ pub fn step(record: &mut [u8], index: &mut Option<Index>, operation: &Operation)
 pub fn one_of_each(rng: &mut Rng, kind: &Kind, index: &Index) -> [Operation; 5] {
     let mut key = || kind.asked(rng, index);
     let keys = [key(), key(), key(), key(), key()];
-    let (value, rooms) = (rng.next() as u32, [room(rng), room(rng)]);
+    let value = rng.next() as u32;
     let [a, b, c, d, e] = keys;
     [
         Operation::Find { key: a },
-        Operation::FirstAtOrAbove { key: b, room: rooms[0] },
-        Operation::LastAtOrBelow { key: c, room: rooms[1] },
+        Operation::FirstAtOrAbove { key: b },
+        Operation::LastAtOrBelow { key: c },
         Operation::Remove { key: d },
         Operation::Put { key: e, value },
     ]
-}
-
-/// Mostly enough for any key.
-pub fn room(rng: &mut Rng) -> usize {
-    match rng.below(4) {
-        0 => rng.size_below(16),
-        1 => 17 + rng.size_below(8),
-        _ => 16,
-    }
 }

@@ -12,7 +12,7 @@ use wallathi_model::node::{Node, SLOT_BYTES};
 use crate::lent::{inner_mut, Lent, GUARD, RECORD, REGIONS};
 use crate::sides::{self, Call, Values};
 
-pub const SIDES: [(&str, Call); 2] = [("proved", sides::proved), ("plain", sides::plain)];
+const SIDES: [(&str, Call); 2] = [("proved", sides::proved), ("plain", sides::plain)];
 
 /// Out-parameters and outputs hold this before a call.
 const MARK: u64 = 0xA5A5_A5A5_A5A5_A5A5;
@@ -256,17 +256,23 @@ impl Side {
 
 /// A command on bytes that may be damaged, on each side. The model's answer, which goes by what the bytes are the image of.
 pub fn run_damaged(lent: &Lent, held: Option<Model>, command: &Command) -> Answer {
+    run_on(&mut lent.clone(), held, command)
+}
+
+/// The same on bytes that the command then leaves as the proved side does.
+pub fn run_on(lent: &mut Lent, held: Option<Model>, command: &Command) -> Answer {
     let mut model = Store { length: lent.store().len(), model: held };
     let answer = model.run(command);
     let expected = Told::expected(command, &answer);
-    for (name, call) in SIDES {
-        let mut after = lent.clone();
-        let told = Told::of(&mut after, call, command);
+    let before = lent.clone();
+    for (name, call) in SIDES.into_iter().rev() {
+        lent.clone_from(&before);
+        let told = Told::of(lent, call, command);
         assert!(told == expected, "{name}: {command:?} told {} instead of {}", told.code, expected.code);
         if changes_nothing(command, &answer) {
-            assert!(after == *lent, "{name}: {command:?} changed bytes");
+            assert!(*lent == before, "{name}: {command:?} changed bytes");
         } else {
-            assert_eq!(after.read().as_ref(), model.model.as_ref(), "{name}: {command:?}");
+            assert_eq!(lent.read().as_ref(), model.model.as_ref(), "{name}: {command:?}");
         }
     }
     answer

@@ -27,7 +27,7 @@ pub fn others(rng: &mut Rng, byte: u8, count: usize) -> Vec<u8> {
 }
 
 /// What a list of commands leaves.
-fn reached(seed: u64, mood: Mood, length: usize, commands: usize) -> Store {
+pub fn reached(seed: u64, mood: Mood, length: usize, commands: usize) -> Store {
     let mut store = Store::fresh(length);
     let mut next = Commands::with_mood(seed, mood);
     for _ in 0..commands {
@@ -45,7 +45,7 @@ fn full_stores() -> Vec<Store> {
     ]
 }
 
-fn image_of(store: &Store) -> Lent {
+pub fn image_of(store: &Store) -> Lent {
     Lent::image(store.model.as_ref().expect("an image"), store.length)
 }
 
@@ -71,45 +71,76 @@ fn held_after_state(lent: &Lent, _: &Store, at: usize) -> Option<Model> {
     lent.read()
 }
 
-/// Changes each byte of a part of full stores, one in so many in the short run, and runs a command. Answers how often the bytes were an
-/// image, and how often not.
-fn each_byte(
-    name: &'static str,
+/// Which bytes of a store change, one after another, and how often the bytes were an image then and how often not.
+pub struct Sweep {
+    store: Store,
+    lent: Lent,
     part: fn(&mut Lent) -> &mut [u8],
     held: fn(&Lent, &Store, usize) -> Option<Model>,
-    step: usize,
-) -> (usize, usize) {
+    next: Commands,
+    pub images: usize,
+    pub damaged: usize,
+}
+
+impl Sweep {
+    pub fn of_store(store: Store, seed: u64) -> Sweep {
+        Sweep::new(store, Lent::store_mut, held_after_store, seed)
+    }
+
+    pub fn of_state(store: Store, seed: u64) -> Sweep {
+        Sweep::new(store, Lent::state_mut, held_after_state, seed)
+    }
+
+    fn new(
+        store: Store,
+        part: fn(&mut Lent) -> &mut [u8],
+        held: fn(&Lent, &Store, usize) -> Option<Model>,
+        seed: u64,
+    ) -> Sweep {
+        let next = Commands::with_mood(seed, Mood::Fills);
+        Sweep { lent: image_of(&store), store, part, held, next, images: 0, damaged: 0 }
+    }
+
+    /// A command for each of the values that the byte at a place gets in turn; it is as it was again then.
+    pub fn change(&mut self, at: usize, values: impl FnOnce(u8) -> Vec<u8>) {
+        let good = (self.part)(&mut self.lent)[at];
+        for byte in values(good) {
+            (self.part)(&mut self.lent)[at] = byte;
+            let held = (self.held)(&self.lent, &self.store, at);
+            *(if held.is_some() { &mut self.images } else { &mut self.damaged }) += 1;
+            run_damaged(&self.lent, held, &self.next.next(&self.store));
+        }
+        (self.part)(&mut self.lent)[at] = good;
+    }
+}
+
+/// Changes each byte of a part of full stores, one in so many in the short run. Answers how often the bytes were an image, and how often
+/// not.
+fn each_byte(name: &'static str, sweep: fn(Store, u64) -> Sweep, step: usize) -> (usize, usize) {
     let mut rng = Rng::new(3_001);
     let (mut images, mut damaged) = (0, 0);
-    for (number, store) in full_stores().iter().enumerate() {
-        let mut lent = image_of(store);
-        let length = part(&mut lent).len();
-        let mut next = Commands::with_mood(number as u64, Mood::Fills);
+    for (number, store) in full_stores().into_iter().enumerate() {
+        let mut sweep = sweep(store, number as u64);
+        let length = (sweep.part)(&mut sweep.lent).len();
         let mut progress = Progress::new(name, length);
         for at in (number..length).step_by(amount(step, 1)) {
-            let good = part(&mut lent)[at];
-            for byte in others(&mut rng, good, amount(1, 3)) {
-                part(&mut lent)[at] = byte;
-                let held = held(&lent, store, at);
-                *(if held.is_some() { &mut images } else { &mut damaged }) += 1;
-                run_damaged(&lent, held, &next.next(store));
-            }
-            part(&mut lent)[at] = good;
+            sweep.change(at, |good| others(&mut rng, good, amount(1, 3)));
             progress.step();
         }
+        (images, damaged) = (images + sweep.images, damaged + sweep.damaged);
     }
     (images, damaged)
 }
 
 #[test]
 fn each_byte_of_the_store() {
-    let (images, damaged) = each_byte("each byte of a store", Lent::store_mut, held_after_store, 9);
+    let (images, damaged) = each_byte("each byte of a store", Sweep::of_store, 9);
     assert!(images > 100 && damaged > 500, "{images} {damaged}");
 }
 
 #[test]
 fn each_byte_of_the_state() {
-    let (images, damaged) = each_byte("each byte of a state", Lent::state_mut, held_after_state, 16);
+    let (images, damaged) = each_byte("each byte of a state", Sweep::of_state, 16);
     assert!(images > 100 && damaged > 5_000, "{images} {damaged}");
 }
 
@@ -121,7 +152,7 @@ fn shuffled(rng: &mut Rng, count: usize, of: usize) -> Vec<usize> {
 }
 
 /// The index part of a state, with its nodes at any places.
-fn set_index(rng: &mut Rng, lent: &mut Lent, index: &Index) {
+pub fn set_index(rng: &mut Rng, lent: &mut Lent, index: &Index) {
     let places = shuffled(rng, index.shape().node_count(), POOL_NODES);
     lent.state_mut()[RECORD..REGIONS].copy_from_slice(&record::write(index, &places));
 }

@@ -2,14 +2,14 @@
 
 use std::slice;
 
-use wallathi_model::generate::{Commands, Mood};
+use wallathi_model::generate::{self, Commands, Mood};
 use wallathi_model::groups::{self, Group};
 use wallathi_model::id::Id;
 use wallathi_model::ledger::{Answer, Command, Store};
 use wallathi_model::message::Message;
 use wallathi_model::node::Node;
 use wallathi_model::rng::Rng;
-use wallathi_model::snapshot::{self, file, node_body};
+use wallathi_model::snapshot::{self, file, fresh_cut, node_body};
 
 use crate::beside::run_damaged;
 use crate::damage::others;
@@ -28,7 +28,7 @@ fn load(slots: usize, file: Vec<u8>) -> u32 {
 }
 
 /// The snapshot of what a list of commands leaves.
-fn saved(seed: u64, mood: Mood, slots: usize, commands: usize) -> Vec<u8> {
+pub fn saved(seed: u64, mood: Mood, slots: usize, commands: usize) -> Vec<u8> {
     let mut store = Store::fresh(slots * SLOT);
     let mut next = Commands::with_mood(seed, mood);
     for _ in 0..commands {
@@ -178,6 +178,47 @@ fn hostile_bodies() {
     let groups = |count: u8| (1..=count).map(|name| group(&[name], &[])).collect::<Vec<_>>();
     assert_eq!(code(&groups(8)), 0);
     assert_eq!(code(&groups(9)), 16);
+}
+
+/// A body with a byte changed, put in or taken out, cut, or longer.
+fn damage_body(rng: &mut Rng, body: &mut Vec<u8>) {
+    let place = rng.size_below(body.len());
+    match rng.below(9) {
+        0 => body.truncate(place),
+        1 => body.push(rng.byte()),
+        2 => body[place] = 0,
+        3 => body[place] = rng.byte(),
+        4 => body[0] = rng.below(19) as u8,
+        5 => body.insert(place, 0),
+        6 => drop(body.remove(place)),
+        _ => body[place] = body[place].wrapping_add(1),
+    }
+}
+
+/// Damaged bodies of nodes and groups in files that are right otherwise.
+#[test]
+fn damaged_bodies() {
+    let mut rng = Rng::new(2_002);
+    let (mut accepted, mut refused) = (0, 0);
+    for _ in 0..amount(500, 20_000) {
+        let node = generate::node(&mut rng);
+        let live = node.live().map(|entry| (entry.id, entry.pairs.clone())).collect();
+        let (name, group) = generate::group(&mut rng);
+        let mut bodies = [
+            (1, Id::GREATEST.to_bytes().to_vec()),
+            (2, node_body(&fresh_cut(&live)[0])),
+            (3, groups::body(&name, &group)),
+        ];
+        assert_eq!(load(1, file(&bodies)), 0);
+        let body = 1 + rng.size_below(2);
+        damage_body(&mut rng, &mut bodies[body].1);
+        match load(1, file(&bodies)) {
+            0 => accepted += 1,
+            16 => refused += 1,
+            code => panic!("{code}"),
+        }
+    }
+    assert!(accepted > 50 && refused > 200, "{accepted} {refused}");
 }
 
 #[test]

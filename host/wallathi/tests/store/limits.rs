@@ -15,16 +15,16 @@ fn message(list: &[(&[u8], &[u8])]) -> Message {
     list.iter().map(|(field, value)| (field.to_vec(), value.to_vec())).collect()
 }
 
-fn one(value: &str) -> Message {
+pub fn one(value: &str) -> Message {
     message(&[(b"t", value.as_bytes())])
 }
 
-fn name(text: &str) -> Name {
+pub fn name(text: &str) -> Name {
     text.as_bytes().to_vec()
 }
 
 impl Beside {
-    fn add(&mut self, id: Id, pairs: &Message) -> Answer {
+    pub fn add(&mut self, id: Id, pairs: &Message) -> Answer {
         self.run(&Command::Add { id, slip: slip::write(pairs) })
     }
 
@@ -33,7 +33,7 @@ impl Beside {
         self.run(&Command::AddByClock { time: 0, slip: slip::write(pairs) })
     }
 
-    fn delete(&mut self, id: Id) {
+    pub fn delete(&mut self, id: Id) {
         assert_eq!(self.run(&Command::Delete { id }), Answer::Count(1));
     }
 
@@ -41,15 +41,15 @@ impl Beside {
         self.model().cut.slots[slot].as_ref().expect("a node")
     }
 
-    fn create(&mut self, group: &str, start: Id) -> Answer {
+    pub fn create(&mut self, group: &str, start: Id) -> Answer {
         self.run(&Command::CreateGroup { group: name(group), start })
     }
 
-    fn group_read(&mut self, group: &str, consumer: &str, now: u64) -> Answer {
+    pub fn group_read(&mut self, group: &str, consumer: &str, now: u64) -> Answer {
         self.run(&Command::GroupRead { group: name(group), consumer: name(consumer), now })
     }
 
-    fn claim(&mut self, consumer: &str, least_idle: u64, id: Id, now: u64) -> Answer {
+    pub fn claim(&mut self, consumer: &str, least_idle: u64, id: Id, now: u64) -> Answer {
         self.run(&Command::Claim { group: name("g"), consumer: name(consumer), least_idle, id, now })
     }
 }
@@ -142,6 +142,53 @@ fn a_node_of_4096_bytes_once_128_are_deleted() {
     beside.check();
 }
 
+/// A trim that gives the deleted count a third byte makes a node of 4,095 bytes one of 4,096; it is read and deleted from like any other.
+#[test]
+fn a_trim_makes_a_node_of_4096_bytes() {
+    let mut beside = Beside::fresh(SLOT);
+    for (count, keep) in [(100, 10), (40, 13)] {
+        (0..count).for_each(|_| assert!(matches!(beside.append(&one("1")), Answer::Id(_))));
+        beside.run(&Command::Trim { keep });
+    }
+    assert_eq!((beside.node(0).deleted_count(), beside.node(0).live_count()), (127, 13));
+    let id = Id::new(0, 141);
+    let (full, over) = (filling(Some(beside.node(0)), id, 4_095), filling(Some(beside.node(0)), id, 4_096));
+    assert_eq!(beside.add(id, &over), Answer::Refused(7));
+    assert_eq!(beside.add(id, &full), Answer::Id(id));
+    assert_eq!(beside.run(&Command::Trim { keep: 13 }), Answer::Count(1));
+    assert_eq!((beside.node(0).size(), beside.node(0).deleted_count()), (4_096, 128));
+    assert_eq!(beside.append(&one("")), Answer::Refused(7));
+    for command in [Command::Read { id, room: 5_000 }, Command::Save { room: 9_000 }] {
+        assert_eq!(beside.run(&command).code(), 0);
+    }
+    beside.check();
+    for count in [1, 0] {
+        assert_eq!(beside.run(&Command::Delete { id }), Answer::Count(count));
+    }
+    assert_eq!(beside.run(&Command::Trim { keep: 1 }), Answer::Count(11));
+    assert_eq!((beside.node(0).size(), beside.node(0).deleted_count()), (4_096, 140));
+    beside.check();
+}
+
+/// 64 nodes, and the lowest slots that were freed take what comes.
+#[test]
+fn sixty_four_nodes() {
+    let mut beside = Beside::fresh(64 * SLOT + 1);
+    let long = message(&[(b"a", &[b'x'; 700]), (b"b", &[b'x'; 700]), (b"c", &[b'x'; 700])]);
+    for ms in 1..=64 {
+        assert_eq!(beside.add(Id::new(ms * 1_000, ms), &long), Answer::Id(Id::new(ms * 1_000, ms)));
+    }
+    assert_eq!(beside.add(Id::new(65_000, 0), &long), Answer::Refused(7));
+    [64, 20, 21].into_iter().for_each(|ms| beside.delete(Id::new(ms * 1_000, ms)));
+    for (ms, slot) in [(65, 19), (66, 20), (67, 63)] {
+        let id = Id::new(ms * 1_000, 0);
+        assert_eq!(beside.add(id, &long), Answer::Id(id));
+        assert_eq!(beside.node(slot).key(), id);
+    }
+    assert_eq!(beside.add(Id::new(68_000, 0), &long), Answer::Refused(7));
+    beside.check();
+}
+
 /// Trims that take a node's deleted count across 127 in one step.
 #[test]
 fn a_trim_across_127_deleted() {
@@ -156,94 +203,6 @@ fn a_trim_across_127_deleted() {
             assert!(matches!(beside.run(&Command::Trim { keep }), Answer::Count(_)));
         }
         beside.check();
-    }
-}
-
-#[test]
-fn eight_groups() {
-    let mut beside = Beside::fresh(SLOT);
-    for group in ["d", "h", "b", "f", "a", "g", "c", "e"] {
-        assert_eq!(beside.create(group, Id::new(3, 4)), Answer::Done);
-    }
-    assert_eq!(beside.create("i", Id::LEAST), Answer::Refused(11));
-    assert_eq!(beside.create("e", Id::LEAST), Answer::Refused(10));
-    for group in ["a", "h", "d"] {
-        assert_eq!(beside.run(&Command::DestroyGroup { group: name(group) }), Answer::Done);
-        assert_eq!(beside.create("aa", Id::LEAST), Answer::Done);
-        assert_eq!(beside.run(&Command::DestroyGroup { group: name("aa") }), Answer::Done);
-        assert_eq!(beside.create(group, Id::GREATEST), Answer::Done);
-    }
-    assert_eq!(beside.create("", Id::LEAST), Answer::Refused(3));
-    assert_eq!(beside.create("seventeen letters", Id::LEAST), Answer::Refused(3));
-    beside.check();
-}
-
-/// A group with 16 consumers and 256 pending; the message that follows is live.
-fn crowded() -> Beside {
-    let mut beside = Beside::fresh(64 * SLOT);
-    beside.create("g", Id::LEAST);
-    for number in 1..=257 {
-        beside.add(Id::new(number, 0), &one("1"));
-        if number <= 256 {
-            // Names come in an order that is not theirs.
-            let consumer = format!("c{}", number * 5 % 16);
-            assert_eq!(beside.group_read("g", &consumer, 100), Answer::Id(Id::new(number, 0)));
-        }
-    }
-    beside
-}
-
-#[test]
-fn sixteen_consumers_and_256_pending() {
-    let mut beside = crowded();
-    assert_eq!(beside.group_read("g", "new", 0), Answer::Refused(12));
-    assert_eq!(beside.group_read("g", "c1", 0), Answer::Refused(13));
-    assert_eq!(beside.claim("new", 0, Id::new(1, 0), 100), Answer::Refused(12));
-    assert_eq!(beside.claim("new", 1, Id::new(1, 0), 100), Answer::NotMoved);
-    assert_eq!(beside.claim("new", 0, Id::new(257, 0), 100), Answer::NotMoved);
-    // The clock went back: idle is 0.
-    assert_eq!(beside.claim("c1", 1, Id::new(1, 0), 99), Answer::NotMoved);
-    assert_eq!(beside.claim("c1", 0, Id::new(1, 0), 99), Answer::Moved);
-    let consumers: Vec<Name> = beside.group(b"g").consumers.iter().cloned().collect();
-    for consumer in consumers {
-        let mut after = Id::LEAST;
-        while let Answer::Pending { id, .. } =
-            beside.run(&Command::NextPending { group: name("g"), consumer: consumer.clone(), after })
-        {
-            after = id;
-        }
-        let command = Command::DropConsumer { group: name("g"), consumer };
-        assert!(matches!(beside.run(&command), Answer::Count(15..=17)));
-    }
-    assert_eq!(beside.group_read("g", "new", 0), Answer::Id(Id::new(257, 0)));
-    beside.check();
-}
-
-#[test]
-fn acknowledged_from_the_middle_and_the_ends() {
-    let mut beside = crowded();
-    for number in [1, 256, 128, 2, 255, 128, 257] {
-        let found = beside.group(b"g").pending.contains_key(&Id::new(number, 0));
-        let command = Command::Acknowledge { group: name("g"), id: Id::new(number, 0) };
-        assert_eq!(beside.run(&command), Answer::Count(u64::from(found)));
-    }
-    beside.check();
-}
-
-#[test]
-fn a_delivery_count_stays_at_65535() {
-    let mut store = Store::fresh(SLOT);
-    let id = Id::new(1, 0);
-    store.run(&Command::Add { id, slip: slip::write(&one("1")) });
-    store.run(&Command::CreateGroup { group: name("g"), start: Id::LEAST });
-    store.run(&Command::GroupRead { group: name("g"), consumer: name("c"), now: 5 });
-    let model = store.model.as_mut().expect("an image");
-    let group = model.ledger.groups.get_mut(&name("g")).expect("a group");
-    group.pending.get_mut(&id).expect("an entry").count = 65_533;
-    let mut beside = Beside::new(Lent::image(model, SLOT), store.clone());
-    for count in [65_534, 65_535, 65_535, 65_535] {
-        assert_eq!(beside.claim("d", 0, id, 9), Answer::Moved);
-        assert_eq!(beside.group(b"g").pending[&id].count, count);
     }
 }
 
@@ -271,6 +230,27 @@ fn the_clock_and_the_greatest_ids() {
     assert_eq!(beside.group_read("g", "c", 0), Answer::NothingNew);
     beside.delete(Id::GREATEST);
     assert_eq!(beside.run(&Command::Next { id: Id::GREATEST }), Answer::NoneFound);
+    beside.check();
+}
+
+/// A clock that stands still and goes back, up to the last of all IDs.
+#[test]
+fn the_last_ids_by_clock() {
+    let mut beside = Beside::fresh(SLOT);
+    let slip = slip::write(&one("1"));
+    let at = |time| Command::AddByClock { time, slip: slip.clone() };
+    for (time, ms, seq) in [(0, 0, 1), (0, 0, 2), (5, 5, 0), (5, 5, 1), (4, 5, 2), (0, 5, 3), (6, 6, 0)] {
+        assert_eq!(beside.run(&at(time)), Answer::Id(Id::new(ms, seq)));
+    }
+    assert_eq!(beside.run(&at(u64::MAX)), Answer::Id(Id::new(u64::MAX, 0)));
+    assert_eq!(beside.run(&at(3)), Answer::Id(Id::new(u64::MAX, 1)));
+    let before = Id::new(u64::MAX, u64::MAX - 1);
+    assert_eq!(beside.add(before, &one("1")), Answer::Id(before));
+    assert_eq!(beside.run(&at(8)), Answer::Id(Id::GREATEST));
+    [0, 8, u64::MAX].into_iter().for_each(|time| assert_eq!(beside.run(&at(time)), Answer::Refused(5)));
+    assert_eq!(beside.create("g", before), Answer::Done);
+    assert_eq!(beside.group_read("g", "c", u64::MAX), Answer::Id(Id::GREATEST));
+    assert_eq!(beside.group_read("g", "c", u64::MAX), Answer::NothingNew);
     beside.check();
 }
 

@@ -3,13 +3,16 @@
 
 mod beside;
 mod damage;
+mod every_byte;
 mod files;
+mod groups;
+mod healing;
 mod lent;
 mod limits;
 mod lists;
 mod nodes;
-mod pointers;
 mod sides;
+mod strings;
 
 use std::env;
 use std::time::{Duration, Instant};

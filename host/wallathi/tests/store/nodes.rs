@@ -120,21 +120,38 @@ fn one_thing_wrong() {
     assert!(images > 30 && damaged > 250, "{images} {damaged}");
 }
 
+/// A node holds no key, so that it is a node under another one too, as long as its IDs rise from above 0-0.
+#[test]
+fn under_another_key() {
+    let mut rng = Rng::new(4_003);
+    for _ in 0..amount(40, 2_000) {
+        let node = generate::node(&mut rng);
+        let bytes = node.to_bytes();
+        assert!(judge(&mut rng, node.key(), &bytes));
+        assert!(judge(&mut rng, node.key().following().expect("a small key"), &bytes));
+        assert!(!judge(&mut rng, Id::LEAST, &bytes));
+        assert_eq!(judge(&mut rng, Id::GREATEST, &bytes), node.entries.len() == 1);
+    }
+}
+
+/// A node 0-1, 0-2, .. of so many messages of one small integer, the first ones deleted.
+pub fn small_node(live: u64, deleted: u64) -> Node {
+    let short: Message = vec![(b"t".to_vec(), b"1".to_vec())];
+    let mut node = Node::of_one(Id::new(0, 1), short.clone());
+    (2..=live + deleted).for_each(|seq| node = node.with(Id::new(0, seq), &short));
+    (1..=deleted).for_each(|seq| assert!(node.delete(Id::new(0, seq))));
+    node
+}
+
 /// 4,095, 4,096 and 4,097 bytes with 127 and 128 deleted messages; 100 and 101 live ones.
 #[test]
 fn one_too_many() {
     let mut rng = Rng::new(4_002);
-    let short = || vec![(b"t".to_vec(), b"1".to_vec())];
-    let of = |live: u64, deleted: u64| {
-        let mut node = Node::of_one(Id::new(0, 1), short());
-        (2..=live + deleted).for_each(|seq| node = node.with(Id::new(0, seq), &short()));
-        (1..=deleted).for_each(|seq| assert!(node.delete(Id::new(0, seq))));
-        node
-    };
     let key = Id::new(0, 1);
-    assert_eq!([99, 100, 101].map(|live| judge(&mut rng, key, &of(live, 9).to_bytes())), [true, true, false]);
+    let live = [99, 100, 101].map(|live| judge(&mut rng, key, &small_node(live, 9).to_bytes()));
+    assert_eq!(live, [true, true, false]);
     for (deleted, expected) in [(127, [true, false, false]), (128, [true, true, false])] {
-        let (node, id) = (of(2, deleted), Id::new(0, 999));
+        let (node, id) = (small_node(2, deleted), Id::new(0, 999));
         let sizes =
             [4_095, 4_096, 4_097].map(|size| node.with(id, &filling(Some(&node), id, size)).to_bytes());
         assert_eq!(sizes.map(|bytes| judge(&mut rng, key, &bytes)), expected);

@@ -8,7 +8,7 @@ use Rattle.octets.specs.Place.{area}
 use Rattle.id.specs.declared.Id.{Id}
 use Rattle.id.specs.Id.{sameId}
 use Rattle.id.specs.Bytes.{idFrom}
-use Rattle.groups.specs.declared.Held.the-variants.{Entry}
+use Rattle.groups.specs.declared.PendingEntry.the-variants.{Entry}
 use Rattle.groups.specs.Group.{arePending}
 use Rattle.groups.specs.Parse.{allPendingIn, groupIn}
 use Rattle.groups.specs.Answer.{heldIn}

@@ -4,10 +4,10 @@ use mathlib.Core.List.{[]}
 use Prim.Native.Nat.{_+_, _*_, _≤_}
 use native.Mathlib.Omega.{arith}
 use lib.ListN.{length, drop, getD}
-use Rattle.groups.specs.declared.Next.the-variants.{Given}
+use Rattle.groups.specs.declared.NextEntry.the-variants.{Given}
 use Rattle.groups.specs.Parse.{allPendingIn, groupIn}
 use Rattle.groups.specs.Step.{nextPending}
-use Rattle.groups.specs.Answer.{nextAs}
+use Rattle.groups.specs.Answer.{entryGiven}
 use Rattle.groups.proofs.Rules.{rules}
 use Rattle.groups.proofs.Verdicts.{sound-tested}
 use Rattle.groups.proofs.Searched.{nextFrom, next-start, next-other, next-found, next-done}
@@ -18,7 +18,7 @@ abbrev Inv-loop : tie.InvT-loop
 Inv-loop s consumer after left₀ at₀ left at =
     (at + left * 27 ≤ 7220)
     × (nextFrom (getD (groupIn s .consumers) consumer []) after (allPendingIn left (groupIn s .consumers) (drop at s))
-    ≡ nextAs (nextPending (getD (groupIn s .consumers) consumer []) after (groupIn s)))
+    ≡ nextPending (getD (groupIn s .consumers) consumer []) after (groupIn s))
 
 abbrev μ-loop : tie.MeasureT-loop
 μ-loop s consumer after left₀ at₀ left at = left
@@ -49,7 +49,7 @@ next-of-spec =
     let p = c .before .before .read-id .ensures in
     let q = c .before .read-le .ensures .0 in
     let r = c .read-le2 .ensures .0 in
-    (λ i. Given (p i) (q i) (r i))
+    (λ i. entryGiven (getD (groupIn s .consumers) (x .args .consumer) []) (Given (p i) (q i) (r i)))
     ∙ sym (next-found (groupIn s .consumers) (rules (groupIn s) (x .pre .0 .rules-kept) .rising) (x .args .consumer) (x .pre .1) (x .args .after) (l .left) (l .at) s (omega arith) (sym (t .before .is-next .ensures) ∙ t .if1 .taken))
     ∙ l .inv .1)
     (λ c. omega arith)

@@ -5,7 +5,7 @@ use Prim.Native.Nat.{ℕ}
 use borrow.Author.Needs.{needs}
 use Rattle.groups.specs.Parse.{groupIn}
 use Rattle.groups.specs.Step.{nextPending}
-use Rattle.groups.specs.Answer.{nextAs}
+use Rattle.groups.specs.Answer.{entryGiven}
 use Rattle.groups.proofs.Rules.{rules}
 use Rattle.groups.proofs.Spots.{FoundName, found-name, absent-name}
 use Rattle.groups.proofs.Searched.{next-unknown}
@@ -28,7 +28,10 @@ next-pending-spec =
     (λ c. search needs)
     (λ c.
     let x = c .before .before .before .before .before .before .before .args in
-    c .next-of .ensures ∙ ap (λ (n : List ℕ). nextAs (nextPending n (x .after) (groupIn (x .region .now)))) (found (c .before .before) .stands))
+    let n = found (c .before .before) .stands in
+    ap (λ (m : List ℕ). entryGiven m (c .next-of .result)) (sym n)
+    ∙ c .next-of .ensures
+    ∙ ap (λ (m : List ℕ). nextPending m (x .after) (groupIn (x .region .now))) n)
     (λ c.
     let x = c .before .before .before .before .before in
     let g = groupIn (x .args .region .now) in

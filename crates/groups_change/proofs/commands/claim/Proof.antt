@@ -11,7 +11,7 @@ use Rattle.octets.specs.Place.{put}
 use Rattle.groups.specs.Group.{Pending, isName}
 use Rattle.groups.specs.Bytes.{regionBytes}
 use Rattle.groups.specs.Parse.{groupIn}
-use Rattle.groups.specs.Answer.{lacksConsumer}
+use Rattle.groups.specs.Step.{lacksConsumer}
 use Rattle.groups.proofs.Laws.{is-name, sound-tested, stands, rules}
 use Rattle.groups_change.specs.Change.{claimedAs}
 use Rattle.groups_change.proofs.Changes.{HeldEntry, held-entry, held-missing, claim-missing, claim-busy, claim-12, claim-moved}
@@ -56,19 +56,22 @@ claim-spec =
     (λ c.
     let x = c .before .before .before .before .before .before .args in
     let g = groupIn (x .region .now) in
-    (sym (claim-missing (x .consumer .now) (x .least-idle) (x .id) (x .time) g (held-missing (x .id) g (sym (c .before .before .find-pending .ensures) ∙ c .enum-told .given .1))), refl))
+    let e = claim-missing (x .consumer .now) (x .least-idle) (x .id) (x .time) g (held-missing (x .id) g (sym (c .before .before .find-pending .ensures) ∙ c .enum-told .given .1)) in
+    (e .0, e .1, refl))
     (λ c κs. search needs)
     (λ c. search needs)
     (λ c.
     let x = c .before .before .before .before .before .before .before .before .before .args in
     let f = found (c .before .before .before) in
-    (sym (claim-busy (x .consumer .now) (x .least-idle) (x .id) (x .time) (groupIn (x .region .now)) (f .found) (f .is-found) (c .before .idle-for .result) (idle-is (c .before)) (c .if1 .taken)), refl))
+    let e = claim-busy (x .consumer .now) (x .least-idle) (x .id) (x .time) (groupIn (x .region .now)) (f .found) (f .is-found) (c .before .idle-for .result) (idle-is (c .before)) (c .if1 .taken) in
+    (e .0, e .1, refl))
     (λ c κs. search needs)
     (λ c. search needs)
     (λ c.
     let x = c .before .before .before .before .before .before .before .before .before .before .before .before .args in
     let f = found (c .before .before .before .before .before .before) in
-    (sym (claim-12 (x .consumer .now) (x .least-idle) (x .id) (x .time) (groupIn (x .region .now)) (f .found) (f .is-found) (c .before .before .before .before .idle-for .result) (idle-is (c .before .before .before .before)) (c .before .before .before .if1 .left) (sym (c .before .lacks-consumer .ensures) ∙ c .if2 .taken)), refl))
+    let e = claim-12 (x .consumer .now) (x .least-idle) (x .id) (x .time) (groupIn (x .region .now)) (f .found) (f .is-found) (c .before .before .before .before .idle-for .result) (idle-is (c .before .before .before .before)) (c .before .before .before .if1 .left) (sym (c .before .lacks-consumer .ensures) ∙ c .if2 .taken) in
+    (e .0, e .1, refl))
     (λ c κs. let x = c .before .before .before .before .before .before .before .before .before .before .before .before .before in (x .pre .0, x .pre .1, x .pre .2, room (c .before)))
     (λ c κs. search needs)
     (λ c κs. search needs)
@@ -84,8 +87,10 @@ claim-spec =
     let a = x .args in
     let g = groupIn (a .region .now) in
     let f = found (c .before .before .before .before .before .before .before .before .before .before .before .before .before .before .before .before .before) in
-    let m = c .before .before .before .before .before .before .before .before .before .make-consumer in (
-      sym (claim-moved (a .consumer .now) (a .least-idle) (a .id) (a .time) g (f .found) (f .is-found) (c .before .before .before .before .before .before .before .before .before .before .before .before .before .before .before .idle-for .result) (idle-is (c .before .before .before .before .before .before .before .before .before .before .before .before .before .before .before)) (c .before .before .before .before .before .before .before .before .before .before .before .before .before .before .if1 .left) (room (c .before .before .before .before .before .before .before .before .before .before .before))),
+    let m = c .before .before .before .before .before .before .before .before .before .make-consumer in
+    let e = claim-moved (a .consumer .now) (a .least-idle) (a .id) (a .time) g (f .found) (f .is-found) (c .before .before .before .before .before .before .before .before .before .before .before .before .before .before .before .idle-for .result) (idle-is (c .before .before .before .before .before .before .before .before .before .before .before .before .before .before .before)) (c .before .before .before .before .before .before .before .before .before .before .before .before .before .before .if1 .left) (room (c .before .before .before .before .before .before .before .before .before .before .before)) in (
+      e .0,
+      e .1,
       c .before .before .copy-in .ensures
           ∙ ap₂ (λ (l r : List ℕ). put l (308 + c .before .before .before .before .before .before .before .before .before .before .before .before .before .before .before .before .before .at .given .0 .0 * 27) r) (m .ensures .2) (c .before .before .before .before .before .entry-row .ensures)
           ∙ claimed-entry (a .region .now) (x .pre .0) (a .consumer .now) (name (c .before .before .before .before .before .before .before .before .before .before .before .before .before .before .before .before .before .before .before .before .before)) (room (c .before .before .before .before .before .before .before .before .before .before .before)) (c .before .before .before .before .before .before .before .before .before .before .before .before .before .before .before .before .before .at .given .0 .0) (m .result) (a .time) (c .before .before .before .before .before .before .grown .result) (a .id) (f .found) (f .is-found) (f .is-place) (m .ensures .0)

@@ -10,7 +10,7 @@ use Rattle.octets.specs.Place.{put}
 use Rattle.id.specs.Bytes.{idBytes}
 use Rattle.groups.specs.Group.{isName}
 use Rattle.groups.specs.Parse.{groupIn}
-use Rattle.groups.specs.Answer.{lacksConsumer}
+use Rattle.groups.specs.Step.{lacksConsumer}
 use Rattle.groups.proofs.Laws.{is-name, sound-tested}
 use Rattle.groups_change.specs.Change.{rowOf}
 use Rattle.groups_change.proofs.Changes.{deliver-12, deliver-13, deliver-done}

@@ -7,7 +7,7 @@ use native.Mathlib.Nat.{zero-add}
 use native.Mathlib.Omega.{arith}
 use lib.ListN.{length}
 use Rattle.groups.specs.declared.Spot.the-variants.{New}
-use Rattle.groups.specs.Bytes.{placeOf, regionBytes}
+use Rattle.groups.specs.Bytes.{placeOfName, regionBytes}
 use Rattle.groups.specs.Parse.{groupIn}
 use Rattle.groups.specs.Answer.{spotFrom}
 use Rattle.groups.proofs.Laws.{KnownSpot, known-spot, placed, rules, with-known}
@@ -47,7 +47,7 @@ make-consumer-spec =
     let r = rules g (x .pre .0 .rules-kept) in
     let f = known (c .before) in
     let n = x .args .name .now in (
-      f .place ∙ zero-add (placeOf n (g .consumers)) ∙ ap (placeOf n) (sym (with-known n _ (g .consumers) (r .rising) (f .among))),
+      f .place ∙ zero-add (placeOfName n (g .consumers)) ∙ ap (placeOfName n) (sym (with-known n _ (g .consumers) (r .rising) (f .among))),
       omega (arith, f .place, placed n (g .consumers) (f .among) .within, r .few),
       x .pre .0 .laid ∙ ap regionBytes (known-made (x .args .region .now) (x .pre .0) n (f .among)),
     ))

@@ -2,8 +2,8 @@
 use mathlib.Core.Path.{sym, ap}
 use borrow.Author.Needs.{needs}
 use Rattle.keys.specs.Operation.{valueReply}
-use Rattle.radix.specs.Answer.{foundOf}
-use Rattle.radix.specs.declared.Found.{Found}
+use Rattle.radix.specs.Answer.{lookupOf}
+use Rattle.radix.specs.declared.Lookup.{Lookup}
 use Rattle.index_bytes.proofs.look.answer_of.Statement.{statement}
 use Rattle.index_bytes.proofs.look.answer_of.Tie as tie
 
@@ -13,5 +13,5 @@ answer-of-spec =
     (tie.spec
     (λ c. search needs)
     (λ c. search needs)
-    (λ c. sym (ap (λ (f : Found). valueReply (foundOf f)) (c.before .f .given .1)))
+    (λ c. sym (ap (λ (f : Lookup). valueReply (lookupOf f)) (c.before .f .given .1)))
     (λ c. search needs))

@@ -11,17 +11,14 @@ pub short-integer-spec : {M : Type 1} → statement M
 short-integer-spec =
     tie.close
     (tie.spec
-    (λ c. search needs)
-    (λ c. sym (short-past (now (c .before .before .args .s)) (c .before .before .args .at) (c .before .before .args .b) (omega arith) (c .before .before .pre .1) _ refl (omega arith) (omega arith) (omega arith)))
-    (λ c. search needs)
+    (λ c. sym (short-past (now (c .before .before .args .t)) (c .before .before .args .b) (omega arith) (c .before .before .pre .1) _ refl (omega arith) (omega arith) (omega arith)))
     (λ c. search needs)
     (λ c. search needs)
     (λ c. search needs)
     (λ c κs. search needs)
     (λ c. search needs)
-    (λ c. sym (short-low (now (c .before .before .before .before .before .args .s)) (c .before .before .before .before .before .args .at) (c .before .before .before .before .before .args .b) (omega arith) (c .before .before .before .before .before .pre .1) _ (c .before .wide .ensures .0) (omega arith) (omega arith) (omega arith)))
+    (λ c. sym (short-low (now (c .before .before .before .before .before .args .t)) (c .before .before .before .before .before .args .b) (omega arith) (c .before .before .before .before .before .pre .1) _ (c .before .wide .ensures .0) (omega arith) (omega arith) (omega arith)))
     (λ c. search needs)
-    (λ c. search needs)
-    (λ c. sym (short-back (now (c .before .before .before .before .before .before .before .args .s)) (c .before .before .before .before .before .before .before .args .at) (c .before .before .before .before .before .before .before .args .b) (omega arith) (c .before .before .before .before .before .before .before .pre .1) _ (c .before .before .before .wide .ensures .0) (omega arith) (omega arith) (omega arith) (omega arith)))
+    (λ c. sym (short-back (now (c .before .before .before .before .before .before .before .args .t)) (c .before .before .before .before .before .before .before .args .b) (omega arith) (c .before .before .before .before .before .before .before .pre .1) _ (c .before .before .before .wide .ensures .0) (omega arith) (omega arith) (omega arith) (omega arith)))
     (λ c κs. search needs)
-    (λ c. c .extend .ensures ∙ sym (short-is (now (c .before .before .before .before .before .before .before .before .args .s)) (c .before .before .before .before .before .before .before .before .args .at) (c .before .before .before .before .before .before .before .before .args .b) (omega arith) (c .before .before .before .before .before .before .before .before .pre .1) _ (c .before .before .before .before .wide .ensures .0) (omega arith) (omega arith) (omega arith) (omega arith) (omega arith) (omega arith))))
+    (λ c. c .extend .ensures ∙ sym (short-is (now (c .before .before .before .before .before .before .before .before .args .t)) (c .before .before .before .before .before .before .before .before .args .b) (omega arith) (c .before .before .before .before .before .before .before .before .pre .1) _ (c .before .before .before .before .wide .ensures .0) (omega arith) (omega arith) (omega arith) (omega arith) (omega arith) (omega arith))))

@@ -20,7 +20,7 @@ tell-spec =
     (λ c. search needs)
     (λ c. search needs)
     (λ c. search needs)
-    (λ c. omega (arith, keys c.before.before.before.before.before, c.before.before.before.before.before .pre))
+    (λ c. omega (arith, keys c.before.before.before.before.before, c.before.before.before.before.before .pre .0))
     (λ c κs. search needs)
     (λ c. search needs)
     (λ c. search needs)
@@ -28,6 +28,6 @@ tell-spec =
     (λ c. let x = c.before.before.before.before.before.before.before.before.before.before.before.before .args in
     let t = c.before.before .tell-entry in
     let e : x .n .len - 0 ≡ x .n .len = omega arith in
-    subst (λ (r : Reply). Tells r (x .out .now) (x .len .now) (x .value .now) (t .result) (t .last .1 .1 .0) (t .last .1 .1 .1 .0) (t .last .1 .1 .1 .1 .0)) (found-told (x .n) (x .n .len - 0) (c.before.before.before.before.before.before.before.before .enum-told .given .1) e) (t .ensures))
+    subst (λ (r : Reply). Tells r (x .output .now) (x .len .now) (x .value .now) (t .result) (t .last .1 .1 .0) (t .last .1 .1 .1 .0) (t .last .1 .1 .1 .1 .0)) (found-told (x .n) (x .n .len - 0) (c.before.before.before.before.before.before.before.before .enum-told .given .1) e) (t .ensures))
     (λ c. search needs)
     (λ c. search needs))
