@@ -12,22 +12,22 @@ use Rattle.octets.specs.Place.{put}
 use Rattle.id.specs.declared.Id.{Id}
 use Rattle.listpack.specs.Known.{stringAt}
 use Rattle.node.specs.Step.{valueOf}
-use Rattle.node_read.specs.Answer.{readingBy, outputBy}
+use Rattle.node_read.specs.Answer.{ReadAnswer, answerOf, readingBy, outputBy}
 use Rattle.node_read.specs.Pairs.{pairsFrom}
 use Rattle.node_read.specs.Held.{HeldAt, FieldAt}
 use Rattle.node_read.specs.declared.reading.Reading.{Reading}
 use Rattle.node_read.specs.declared.pairs.PairCursor.{PairCursor}
-use Rattle.bench_node.specs.Node.{isSound, lengthBy, messageAt, readLength, readOutput, valueBy, valueLength, valueOutput, fieldLength, fieldOutput}
+use Rattle.bench_node.specs.Node.{isSound, messageAt, readLength, readOutput, valueBy, valueLength, valueOutput, fieldLength, fieldOutput}
 
 module _ (key i : Id) (slot out : List ℕ) where
   pub reads-not : isSound key slot ≡ false → (0 ≡ readLength key i slot (length out)) × (out ≡ readOutput key i slot out)
   unfolding readLength readOutput
   reads-not t = (rw t, rw t)
 
-  pub reads-is : isSound key slot ≡ true → (r e : Reading) → r ≡ readingBy (length out) (messageAt key i slot) → r ≡ e → (w : List ℕ) → w ≡ outputBy out (messageAt key i slot)
-      → (lengthBy e ≡ readLength key i slot (length out)) × (w ≡ readOutput key i slot out)
+  pub reads-is : isSound key slot ≡ true → (r e : Reading) → answerOf r ≡ readingBy (length out) (messageAt key i slot) → r ≡ e → (w : List ℕ) → w ≡ outputBy out (messageAt key i slot)
+      → (answerOf e .size ≡ readLength key i slot (length out)) × (w ≡ readOutput key i slot out)
   unfolding readLength readOutput
-  reads-is t r e p q w o = (rw t (ap lengthBy (sym q ∙ p)), rw t o)
+  reads-is t r e p q w o = (rw t (ap (λ (a : ReadAnswer). a .size) (ap answerOf (sym q) ∙ p)), rw t o)
 
   module _ (name : List ℕ) where
     pub fields-not : isSound key slot ≡ false → (0 ≡ fieldLength key i name slot (length out)) × (out ≡ fieldOutput key i name slot out)

@@ -16,7 +16,7 @@ use Rattle.listpack.specs.Listpack as Listpack
 use Rattle.listpack.specs.Read.{parse, asInteger, integerStands, readElement, readBy, readWide, tagWidth, closeInteger, closeText, asText, textStands, backAt, parseMany, parseListpack}
 use Rattle.node.specs.Message.{live, areStrings, arePairs, isMessage, sameStrings, liveIn, liveCount, deletedCount}
 use Rattle.node.specs.Bytes.{masterStrings, pairStrings, entryStrings, entriesStrings, nodeStrings, nodeBytes, nodeSize, slotOf}
-use Rattle.node.specs.Rules.{risingFrom, areMessages, isNode}
+use Rattle.node.specs.Rules.{risingFrom, areMessages, isNode, areCounts, hasRoom}
 use Rattle.node.specs.Parse.{readNumber, readExactly, readStrings, readValues, readPairs, readEntry, readEntries, parseStrings, parseNode, parseSlot}
 use Rattle.groups.specs.Group.{risingNames}
 use Rattle.groups.specs.Area.{areGroups, isGroups}
@@ -47,5 +47,5 @@ unfolding table snapshotOf fileOf contents bodies partsOf freshCut addAll idByte
 marked = refl
 
 pub readBack : map (λ (r : Row). readIn (r .what)) table ≡ map (λ (r : Row). some (r .what)) table
-unfolding table parseSnapshot parseFile takeParts readParts takeBytes isLedger messagesAbove isGroups areGroups risingNames snapshotOf fileOf contents bodies partsOf freshCut addAll idBytes idFrom be beFrom beValue Listpack.listpack Listpack.header Listpack.elements element encodeItem itemOf integerBody textHead backLength fits narrow extend le leValue area allZero patternOf signedOf negativeOf unsignedOf positiveOf digitsAfter same textOf naturalText digitsOf parse readElement readBy readWide tagWidth closeInteger asInteger integerStands closeText asText textStands backAt parseMany parseListpack nodeBytes nodeStrings entriesStrings entryStrings pairStrings masterStrings liveIn liveCount deletedCount sameStrings differenceOf rebuiltOf idOrder nodeSize slotOf risingFrom areMessages isMessage arePairs areStrings isNode readNumber readExactly readStrings readValues readPairs readEntry readEntries parseStrings parseNode parseSlot
+unfolding table parseSnapshot parseFile takeParts readParts takeBytes isLedger messagesAbove isGroups areGroups risingNames snapshotOf fileOf contents bodies partsOf freshCut addAll idBytes idFrom be beFrom beValue Listpack.listpack Listpack.header Listpack.elements element encodeItem itemOf integerBody textHead backLength fits narrow extend le leValue area allZero patternOf signedOf negativeOf unsignedOf positiveOf digitsAfter same textOf naturalText digitsOf parse readElement readBy readWide tagWidth closeInteger asInteger integerStands closeText asText textStands backAt parseMany parseListpack nodeBytes nodeStrings entriesStrings entryStrings pairStrings masterStrings liveIn liveCount deletedCount sameStrings differenceOf rebuiltOf idOrder nodeSize slotOf risingFrom areMessages isMessage arePairs areStrings isNode areCounts hasRoom readNumber readExactly readStrings readValues readPairs readEntry readEntries parseStrings parseNode parseSlot
 readBack = refl

@@ -34,7 +34,7 @@ use Rattle.slip.specs.Slip.{slipPairs, slip, cutString, parsePairs, parseSlip}
 use Rattle.node.specs.Bytes.{masterStrings, pairStrings, entryStrings, entriesStrings, nodeStrings, nodeBytes, nodeSize, slotOf}
 use Rattle.node.specs.Message.{isMessage, sameStrings, liveIn, liveCount, deletedCount}
 use Rattle.node.specs.Parse.{readNumber, readExactly, readStrings, readValues, readPairs, readEntry, readEntries, parseStrings, parseNode, parseSlot}
-use Rattle.node.specs.Rules.{risingFrom, areMessages, allUpTo, isNode}
+use Rattle.node.specs.Rules.{risingFrom, areMessages, allUpTo, isNode, areCounts, hasRoom}
 use Rattle.node.specs.Step as NodeStep
 use Rattle.groups.specs.Area.{areGroups, isGroups, regions, areaBytes, parseRegions, parseArea}
 use Rattle.groups.specs.Bytes.{placeOfName, pendingBytes, allPending, allNames, bodyBytes, allNameFields, regionBytes}
@@ -306,7 +306,7 @@ pub record Computed : Type 0 where
       ∷ Indexed.found (Index.entry a 2) ∷ Indexed.removed 1 ∷ Indexed.removed 0 ∷ Indexed.nothing ∷ []
 
 pub computed : Computed
-unfolding half halves halfNodes backlog Index.firstFrom Index.insert Index.lastUpTo Index.lookup Index.without Indexed.putTo Indexed.removeFrom Indexed.replies aged asks refusals series table wide le leValue be beFrom beValue allZero same orderOf area put spliced takeBytes idBytes idFrom differenceOf rebuiltOf idOrder followingOf digitsAfter positiveOf unsignedOf negativeOf signedOf patternOf digitsOf naturalText textOf itemOf integerBody textHead backLength encodeItem element textSize elementSize Listpack.elements Listpack.header Listpack.listpack backAt integerStands asInteger closeInteger textStands asText closeText tagWidth readWide readBy readElement parse parseMany parseListpack fits narrow extend areStrings arePairs slipPairs slip cutString parsePairs parseSlip masterStrings pairStrings entryStrings entriesStrings nodeStrings nodeBytes nodeSize slotOf isMessage sameStrings liveIn liveCount deletedCount readNumber readExactly readStrings readValues readPairs readEntry readEntries parseStrings parseNode parseSlot risingFrom areMessages isNode NodeStep.append NodeStep.takes NodeStep.fitsAlone NodeStep.markDeleted NodeStep.markOldest NodeStep.findMessage NodeStep.firstFrom NodeStep.withoutMessage NodeStep.valueOf areGroups isGroups regions areaBytes parseRegions parseArea placeOfName pendingBytes allPending allNames bodyBytes allNameFields regionBytes areNames namesAbove risingNames isAmong pendingAbove pendingUpTo isPending arePending isGroup nameIn isField namesIn areFields entryId pendingIn isEntry allPendingIn areEntries deliveredIn groupIn namesPass entriesPass isRegion parseRegion takeName takeNames parseBody Groups.withName Groups.withoutName Groups.findPending Groups.putPending Groups.withoutPending Groups.pendingOf Groups.pendingOfOthers Groups.firstAbove Groups.deliver Groups.acknowledge Groups.claim Groups.nextPending Groups.dropConsumer Groups.findGroup Groups.putGroup Groups.withoutGroup Cut.entriesOf Cut.isTaken Cut.areNodes allUpTo Cut.isModel Cut.freeFrom Cut.lowestFree Cut.goesToHighest Cut.appendToHighest Cut.addTo Cut.addMessage Cut.lacksSlot Cut.freed Cut.markInNodes Cut.deleteMessage Cut.markOldestInNodes Cut.deleteOldest Cut.addAll Cut.freshCut nodeOf nodesOf freeZero imageFrom messagesAbove isLedger onSetUp addAs clockId onTrim onCreate Groups.lacksConsumer NodeStep.firstAfter run answers step partsOf contents bodies fileOf snapshotOf saveReply loads takeParts parseFile readNode readParts parseSnapshot
+unfolding half halves halfNodes backlog Index.firstFrom Index.insert Index.lastUpTo Index.lookup Index.without Indexed.putTo Indexed.removeFrom Indexed.replies aged asks refusals series table wide le leValue be beFrom beValue allZero same orderOf area put spliced takeBytes idBytes idFrom differenceOf rebuiltOf idOrder followingOf digitsAfter positiveOf unsignedOf negativeOf signedOf patternOf digitsOf naturalText textOf itemOf integerBody textHead backLength encodeItem element textSize elementSize Listpack.elements Listpack.header Listpack.listpack backAt integerStands asInteger closeInteger textStands asText closeText tagWidth readWide readBy readElement parse parseMany parseListpack fits narrow extend areStrings arePairs slipPairs slip cutString parsePairs parseSlip masterStrings pairStrings entryStrings entriesStrings nodeStrings nodeBytes nodeSize slotOf isMessage sameStrings liveIn liveCount deletedCount readNumber readExactly readStrings readValues readPairs readEntry readEntries parseStrings parseNode parseSlot risingFrom areMessages isNode areCounts hasRoom NodeStep.append NodeStep.takes NodeStep.fitsAlone NodeStep.markDeleted NodeStep.markOldest NodeStep.findMessage NodeStep.firstFrom NodeStep.withoutMessage NodeStep.valueOf areGroups isGroups regions areaBytes parseRegions parseArea placeOfName pendingBytes allPending allNames bodyBytes allNameFields regionBytes areNames namesAbove risingNames isAmong pendingAbove pendingUpTo isPending arePending isGroup nameIn isField namesIn areFields entryId pendingIn isEntry allPendingIn areEntries deliveredIn groupIn namesPass entriesPass isRegion parseRegion takeName takeNames parseBody Groups.withName Groups.withoutName Groups.findPending Groups.putPending Groups.withoutPending Groups.pendingOf Groups.pendingOfOthers Groups.firstAbove Groups.deliver Groups.acknowledge Groups.claim Groups.nextPending Groups.dropConsumer Groups.findGroup Groups.putGroup Groups.withoutGroup Cut.entriesOf Cut.isTaken Cut.areNodes allUpTo Cut.isModel Cut.freeFrom Cut.lowestFree Cut.goesToHighest Cut.appendToHighest Cut.addTo Cut.addMessage Cut.lacksSlot Cut.freed Cut.markInNodes Cut.deleteMessage Cut.markOldestInNodes Cut.deleteOldest Cut.addAll Cut.freshCut nodeOf nodesOf freeZero imageFrom messagesAbove isLedger onSetUp addAs clockId onTrim onCreate Groups.lacksConsumer NodeStep.firstAfter run answers step partsOf contents bodies fileOf snapshotOf saveReply loads takeParts parseFile readNode readParts parseSnapshot
 computed =
     record {
       written = refl;

@@ -8,3 +8,5 @@ mod Passed
 mod Checks
 mod Judged
 mod Looked
+mod TableRows
+mod Asking

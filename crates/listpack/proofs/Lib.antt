@@ -19,3 +19,4 @@ pub mod Writes
 pub mod Examples
 pub mod There
 pub mod Lying
+pub mod OneForm

@@ -1,5 +1,5 @@
 -- What the writers leave behind, part by part. Assumes nothing.
-use mathlib.Core.Path.{_≡_, sym, ap, ap₂, _∙_}
+use mathlib.Core.Path.{_≡_, sym, ap, _∙_}
 use mathlib.Core.List.{List, [], _∷_}
 use Prim.Native.Nat.{ℕ, _+_, _≤_, _<_}
 use native.Mathlib.Omega.{arith}
@@ -8,8 +8,7 @@ use Rattle.octets.specs.Bytes.{le}
 use Rattle.octets.specs.Place.{put}
 use Rattle.octets.proofs.Laws.{set-put, put-append, length-le}
 use Rattle.listpack.specs.Width.{narrow, halfOf}
-use Rattle.listpack.specs.Listpack.{header, elements, listpack}
-use Rattle.listpack.proofs.Whole.{header-length}
+use Rattle.listpack.specs.Listpack.{header}
 use Rattle.listpack.specs.Element.{IsWide, Item, text, bodyOf, integerBody, textHead, backLength, encodeItem}
 
 module _ (d : List ℕ) (at : ℕ) where
@@ -46,14 +45,6 @@ unfolding header
 stored-header d total count =
     let q : 4 ≡ 0 + length (le 4 total) = omega (arith, length-le 4 total) in
     ap (λ (k : ℕ). put (put d 0 (le 4 total)) k (le 2 count)) q ∙ put-append d 0 (le 4 total) (le 2 count) (omega arith)
-
-pub stored-empty : (d e : List ℕ) → 7 ≤ length e → e ≡ put d 0 (header 7 0) → set e 6 255 ≡ put d 0 (listpack [])
-unfolding listpack elements
-stored-empty d e h k =
-    let q : 6 ≡ 0 + length (header 7 0) = omega (arith, header-length 7 0 []) in
-    set-put e 6 255 (omega arith)
-    ∙ ap₂ (λ (l : List ℕ) (i : ℕ). put l i (255 ∷ [])) k q
-    ∙ put-append d 0 (header 7 0) (255 ∷ []) (omega arith)
 
 -- what was written is the same list by another name
 pub next-as : (n : ℕ) (x d : List ℕ) (at : ℕ) (u v : List ℕ) → v ≡ u → (n ≡ at + length u) × (x ≡ put d at u) → (n ≡ at + length v) × (x ≡ put d at v)

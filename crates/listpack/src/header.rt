@@ -1,12 +1,11 @@
 // The header of a listpack: total bytes and element count.
 
 ghost use mathlib.Core.Path.{_≡_};
-ghost use mathlib.Core.List.{[]};
 ghost use Prim.Native.Nat.{_^_, _≤_, _<_};
 ghost use lib.ListN.{length};
 ghost use Rattle.octets.specs.Bytes.{leValue};
 ghost use Rattle.octets.specs.Place.{area, put};
-ghost use Rattle.listpack.specs.Listpack.{header, listpack};
+ghost use Rattle.listpack.specs.Listpack.{header};
 
 pub fn read_total(s: &[u8]) -> u64
     requires { ⌜ 6 ≤ length (now s) ⌝ }
@@ -28,12 +27,4 @@ pub fn write_header(d: &mut [u8], total: u64, count: u64)
 {
     octets::write_le(d, 0, 4, total);
     octets::write_le(d, 4, 2, count);
-}
-
-pub fn write_empty(d: &mut [u8])
-    requires { ⌜ 7 ≤ length (now d) ⌝ }
-    ensures { λ _. ⌜ now (d .exit) ≡ put (now (d .entry)) 0 (listpack []) ⌝ }
-{
-    write_header(d, 7, 0);
-    d[6] = 255;
 }

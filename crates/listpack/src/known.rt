@@ -2,10 +2,10 @@
 
 ghost use mathlib.Core.Path.{_≡_};
 ghost use Prim.Native.Nat.{_≤_, _<_};
-ghost use lib.ListN.{getD, drop};
+ghost use lib.ListN.{length, getD, drop};
 ghost use Rattle.octets.specs.Compare.{same};
 ghost use Rattle.listpack.specs.Read.{readElement};
-ghost use Rattle.listpack.specs.Known.{ElementAt, ElementsAt, stringAt, sizeAt, patternAt, endAt};
+ghost use Rattle.listpack.specs.Known.{ElementAt, ElementsAt, stringAt, sizeAt, patternAt, smallAt, isEnd, endAt};
 use crate::Element;
 use crate::form::HALF_16;
 use crate::form::HALF_24;
@@ -22,6 +22,22 @@ fn long_size(s: &[u8], at: usize, b: u64) -> usize
 {
     let n = (256 * (b - 224) + octets::wide(s[at + 1])) as usize + 2;
     n + back_size(n)
+}
+
+// A number of 7 bits.
+pub fn known_small(s: &[u8], at: usize) -> u64
+    requires { ⌜ at < length (now s) ⌝ }
+    ensures { λ r. ⌜ (r ≡ smallAt (now (s .entry)) at) × (r < 256) ⌝ }
+{
+    octets::wide(s[at])
+}
+
+// The end byte stands there, not an element.
+pub fn is_end(s: &[u8], at: usize) -> bool
+    requires { ⌜ at < length (now s) ⌝ }
+    ensures { λ r. ⌜ r ≡ isEnd (now (s .entry)) at ⌝ }
+{
+    s[at] == 255
 }
 
 // The size of the element there.
@@ -153,4 +169,18 @@ pub fn known_is(s: &[u8], at: usize, x: &[u8]) -> bool
         }
         Element::Bad => false,
     }
+}
+
+// The strings of two elements are the same: their bytes are.
+pub fn same_element(s: &[u8], a: usize, b: usize) -> bool
+    requires { ⌜ (ElementAt (now s) a) × (ElementAt (now s) b) ⌝ }
+    ensures { λ r. ⌜ r ≡ same (stringAt (now (s .entry)) a) (stringAt (now (s .entry)) b) ⌝ }
+{
+    let x = a + known_size(s, a);
+    let y = b + known_size(s, b);
+    // Names of one kind differ at their end, which lies before the back length.
+    if s[x - 2] != s[y - 2] {
+        return false;
+    }
+    octets::equal(&s[a..x], &s[b..y])
 }

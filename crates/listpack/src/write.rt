@@ -5,6 +5,7 @@ ghost use mathlib.Core.List.{[], _∷_};
 ghost use Prim.Native.Nat.{_+_, _≤_, _<_};
 ghost use lib.ListN.{length};
 ghost use Rattle.octets.specs.Place.{put};
+ghost use Rattle.listpack.specs.Listpack.{endByte};
 ghost use Rattle.listpack.specs.Element.{IsWide, integer, text, integerBody, textHead, backLength, encodeItem, element};
 use crate::form::HALF_SHORT;
 use crate::form::Wide;
@@ -26,6 +27,14 @@ fn put_two(d: &mut [u8], at: usize, a: u64, b: u64)
 {
     d[at] = a as u8;
     d[at + 1] = b as u8;
+}
+
+// The end byte.
+pub fn put_end(d: &mut [u8], at: usize)
+    requires { ⌜ at < length (now d) ⌝ }
+    ensures { λ _. ⌜ now (d .exit) ≡ put (now (d .entry)) at endByte ⌝ }
+{
+    d[at] = 255;
 }
 
 // Each part of an element answers how many bytes it took.
