@@ -105,8 +105,8 @@ static int same(int command, unsigned without, const struct lent *start, unsigne
 {
     uint32_t null, empty;
 
-    with_null = *start;
-    with_empty = *start;
+    memcpy(&with_null, start, sizeof with_null);
+    memcpy(&with_empty, start, sizeof with_empty);
     null = call_without(command, without, NULL, &with_null);
     empty = call_without(command, without, elsewhere, &with_empty);
     *answered += null == WALLATHI_OK || null > WALLATHI_LAST_REFUSAL;
@@ -123,7 +123,7 @@ int main(void)
     int command, ok;
 
     ok = wallathi_set_up(fresh.store, sizeof fresh.store, fresh.state) == WALLATHI_OK;
-    used = fresh;
+    memcpy(&used, &fresh, sizeof used);
     ok &= wallathi_add(used.store, sizeof used.store, used.state, 5, 0, slip, sizeof slip, &ms, &seq) == WALLATHI_OK;
     ok &= wallathi_create_group(used.store, sizeof used.store, used.state, name, sizeof name - 1, 0, 0) == WALLATHI_OK;
     ok &= wallathi_save(used.store, sizeof used.store, used.state, file, sizeof file, &file_length) == WALLATHI_OK;

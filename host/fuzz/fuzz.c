@@ -296,7 +296,7 @@ int LLVMFuzzerTestOneInput(const uint8_t *data, size_t size)
             damage(&in);
             continue;
         }
-        before = now;
+        memcpy(&before, &now, sizeof before);
         command = kind % 16 == 1 ? LOAD : (unsigned)number(&in, 1) % LOAD;
         code = command == LOAD ? load(&in) : call(&in, command);
         if (code != 0 && memcmp(&now, &before, sizeof now) != 0) {
