@@ -1,7 +1,7 @@
 //! Every byte of whole nodes and of whole group regions, changed by a little and by much.
 
 use wallathi_model::generate;
-use wallathi_model::groups::REGION_BYTES;
+use wallathi_model::groups::{PENDING_BYTES, REGION_BYTES};
 use wallathi_model::id::Id;
 use wallathi_model::ledger::{Model, Store};
 use wallathi_model::node::Node;
@@ -15,9 +15,11 @@ use crate::limits::{filling, name};
 use crate::nodes::small_node;
 
 const SLOT: usize = 4_096;
+/// Where the entries of a region begin.
+const ENTRIES: usize = 308;
 
-/// Each of these bytes becomes one more, one less or its opposite, in the long run all three. Answers how often the bytes were an
-/// image, and how often not.
+/// Each of these bytes becomes one more, one less or one with another highest bit, in the long run all three. Answers how often the bytes
+/// were an image, and how often not.
 fn each_step(mut sweep: Sweep, places: impl Iterator<Item = usize>) -> (usize, usize) {
     for at in places {
         let steps = [1, 128, 255].into_iter().cycle().skip(at % 3).take(amount(1, 3));
@@ -60,7 +62,7 @@ fn regions() {
     model.ledger.last_id = Id::new(7, 3 * 250);
     model.ledger.groups.insert(name("a"), filled(&mut rng, 15, 250));
     model.ledger.groups.insert(name("group"), filled(&mut rng, 5, 30));
-    let used = REGION_BYTES + 308 + 30 * 27;
+    let used = REGION_BYTES + ENTRIES + 30 * PENDING_BYTES;
     let places =
         (0..used).chain((used..8 * REGION_BYTES).step_by(97)).chain(2 * REGION_BYTES..2 * REGION_BYTES + 40);
     let store = Store { length: SLOT, model: Some(model) };
