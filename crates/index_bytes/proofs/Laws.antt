@@ -1,24 +1,22 @@
 -- What callers cite of the bytes of an index. Assumes nothing.
 use mathlib.Core.Bool.{Bool, true, false}
-use mathlib.Core.Path.{_≡_, refl, sym, ap, _∙_}
+use mathlib.Core.Path.{_≡_, refl, sym, ap, _∙_, subst⁻¹}
 use mathlib.Core.List.{List, [], _∷_}
 use mathlib.Core.Option.{Option, some, none}
 use Prim.Native.Nat.{ℕ, _*_, _^_, _≤_}
 use native.Mathlib.Omega.{arith}
-use lib.ListN.{length, length-append}
+use lib.ListN.{length}
 use Rattle.octets.specs.Bytes.{Bytes}
 use Rattle.octets.specs.Pick.{pick}
-use Rattle.octets.proofs.Laws.{length-le}
 use Rattle.keys.specs.Entries.{Entry, isMap, isKey, firstFrom, lastUpTo}
 use Rattle.keys.specs.Operation.{Operation, Reply, firstAtOrAbove, lastAtOrBelow, replyIn, entriesAfter, operate, isChange}
 use Rattle.keys.specs.Answer.{neighbourOf}
 use Rattle.keys.proofs.Laws.{map-fit, first-refused, first-reply, last-refused, last-reply, Keys, Small, operate-map, quiet-after, none-map, entry-short, first-fits, last-fits}
 use Rattle.radix.specs.Layout.{recordOf}
 use Rattle.radix.specs.Record.{entriesOf}
-use Rattle.radix.proofs.Laws.{entries-map, record-back, AllBelow, record-fields, keys-bytes}
+use Rattle.radix.proofs.Laws.{entries-map, record-back, AllBelow, record-fields, record-byte-fields, keys-bytes}
 use Rattle.radix_bytes.specs.Bytes.{bytesOf, recordFrom, Fit}
-use Rattle.radix_bytes.proofs.Laws.{record-again, label-bytes}
-use Rattle.radix_bytes.proofs.Words.{length-words}
+use Rattle.radix_bytes.proofs.Laws.{record-again, length-bytes, bytes-bytes, label-bytes}
 use Rattle.index_bytes.specs.Held.{recordSize, entriesIn, entries-in, recordBytes, record-bytes}
 use Rattle.index_bytes.specs.Promise.{bytesAfter}
 
@@ -39,14 +37,15 @@ record-holds es m =
 
 -- and are as many as a record has
 pub length-record : (es : List Entry) → isMap es ≡ true → length (recordBytes es) ≡ recordSize
-unfolding bytesOf
 length-record es m =
     let f = record-fields es m in
-    let x = recordOf es in
-    let c = length-words 2 (x .child) in
-    let n = length-words 2 (x .next) in
-    let v = length-words 4 (x .val) in
-    ap length (record-bytes es) ∙ simp (length-append, length-le) (omega (arith, f .len, f .key, f .child, f .next, f .val, f .label, c, n, v))
+    ap length (record-bytes es) ∙ length-bytes (recordOf es) (f .len) (f .key) (f .child) (f .next) (f .val) (f .label)
+
+-- each of them a byte, where the keys are bytes
+pub bytes-record : (es : List Entry) → isMap es ≡ true → Keys Bytes es → Bytes (recordBytes es)
+bytes-record es m k =
+    let b = record-byte-fields es m k in
+    subst⁻¹ Bytes (record-bytes es) (bytes-bytes (recordOf es) (b .len) (b .key) (b .label))
 
 pub empty-holds : entriesIn (recordBytes []) ≡ some []
 empty-holds = record-holds [] (none-map [] refl)

@@ -12,7 +12,7 @@ use lib.Seq.{take-at, drop-at, take-length}
 use Rattle.octets.specs.Pick.{pick, both}
 use Rattle.keys.specs.Entries.{Entry, entry, rising, allAbove}
 use Rattle.radix.specs.Shape.{firstByte, prefixOf, cut, longer, own, ownEntry}
-use Rattle.radix.specs.Layout.{alike, group, stretch, ownFirst, afterOwn, firstKey}
+use Rattle.radix.specs.Sprout.{alike, group, stretch, ownFirst, afterOwn, firstKey}
 use Rattle.radix.proofs.Under.{under, cut-under, prefix-cut, length-under}
 use Rattle.radix.proofs.Keys.{StartsAt, From}
 use Rattle.keys.proofs.Laws.{Short, rising-left, rising-tail}

@@ -13,7 +13,8 @@ use Rattle.keys.specs.Entries.{Entry, rising, isMap}
 use Rattle.radix.specs.Shape.{Shape, nodes, cut, shape, nodeCount}
 use Rattle.radix.specs.Record.{Nodes}
 use Rattle.keys.specs.Table.{Columns, rowsFrom}
-use Rattle.radix.specs.Layout.{sprout, laid, blank, placeShape, recordOf, record-is}
+use Rattle.radix.specs.Layout.{laid, blank, placeShape, recordOf, record-is}
+use Rattle.radix.specs.Sprout.{sprout}
 use Rattle.radix.specs.Rows.{restAt, Ready}
 use Rattle.radix.proofs.Keys.{From}
 use Rattle.keys.proofs.Laws.{map-length, map-rising, map-fit, length-rows}

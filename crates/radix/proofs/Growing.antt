@@ -17,7 +17,8 @@ use Rattle.keys.specs.Entries.{Entry, entry, rising}
 use Rattle.radix.specs.Shape.{Shape, nil, node, nodes, common, cut, prefixOf, firstByte}
 use Rattle.radix.specs.Record.{Nodes}
 use Rattle.keys.specs.Table.{lengthOf, Columns, rowsFrom}
-use Rattle.radix.specs.Layout.{alike, group, stretch, ownFirst, afterOwn, firstKey, sproutNode, sproutAll, sprout, flagOf, valueOr0, linkTo, withCell, laid}
+use Rattle.radix.specs.Layout.{flagOf, valueOr0, linkTo, withCell, laid}
+use Rattle.radix.specs.Sprout.{alike, group, stretch, ownFirst, afterOwn, firstKey, sproutNode, sproutAll, sprout}
 use Rattle.radix.specs.Rows.{alikeAt, shareAt, restAt, Ready}
 use Rattle.radix.proofs.Under.{under}
 use Rattle.radix.proofs.Keys.{From}

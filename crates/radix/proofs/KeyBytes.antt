@@ -13,7 +13,7 @@ use Rattle.keys.proofs.Laws.{Keys, keys-append}
 use Rattle.radix.specs.Shape.{Shape, nil, node, ownEntry, entriesIn}
 use Rattle.radix.specs.Record.{Nodes, labelOf, valueOf, treeAt}
 
-abbrev LabelBytes : Shape → Type 0
+abbrev pub LabelBytes : Shape → Type 0
 LabelBytes nil = Unit {0}
 LabelBytes (node l v below later) = Bytes l × (LabelBytes below × LabelBytes later)
 

@@ -3,8 +3,9 @@ use Rattle.octets.proofs.Laws.{bytes-nil}
 use Rattle.octets.specs.Bytes.{Bytes}
 use Rattle.radix.proofs.KeyBytes.{tree-bytes, entries-bytes}
 use Rattle.radix.proofs.Fields.{fields-of}
+use Rattle.radix.proofs.FieldBytes.{children-bytes, laid-bytes, blank-bytes}
 use mathlib.Core.Bool.{true}
-use mathlib.Core.Path.{_≡_, sym, ap, _∙_, subst}
+use mathlib.Core.Path.{_≡_, sym, ap, _∙_, subst, subst⁻¹}
 use mathlib.Core.List.{List, [], _++_}
 use mathlib.Core.Option.{some, Option·some-injective}
 use Prim.Native.Nat.{ℕ, _+_, _*_, _≤_}
@@ -17,7 +18,7 @@ use Rattle.keys.specs.Entries.{Entry, isMap, rising, allFit}
 use Rattle.radix.specs.Shape.{Shape, nil, node, shape, nodes, entriesIn}
 use Rattle.radix.specs.Record.{treeOf, isPlaced, heldIn, entriesOf, entries-is, nodesOf}
 use Rattle.radix.specs.Gathering.{withOwn, gathered}
-use Rattle.radix.specs.Layout.{placeShape, recordOf, record-is}
+use Rattle.radix.specs.Layout.{blank, placeShape, recordOf, record-is}
 use Rattle.keys.proofs.Laws.{map-length, map-rising, map-fit, Keys}
 use Rattle.radix.proofs.Bounds.{shape-nodes}
 use Rattle.radix.proofs.Whole.{need-some, bind-some, shape-held, held-map}
@@ -34,6 +35,7 @@ pub use Rattle.radix.proofs.Turns.{Turn, step, find-below, find-fits, f
 pub use Rattle.radix.proofs.Back.{shape-back, shape-canonical}
 pub use Rattle.radix.proofs.Bounds.{nodes-suffice}
 pub use Rattle.radix.proofs.Fields.{AllBelow, Fields}
+pub use Rattle.radix.proofs.FieldBytes.{ByteFields}
 -- find by a walk is lookup, and the rows of a record's tree
 pub use Rattle.radix.proofs.Lookups.{shape-find}
 pub use Rattle.radix.proofs.Whole.{shape-gathered, not-canonical, not-gathered, is-gathered}
@@ -114,3 +116,11 @@ keys-bytes x es h e =
     let k = holds x es e in
     subst (Keys Bytes) (ap (entriesIn []) (k .tree) ∙ shape-back es (k .map))
     (entries-bytes [] (treeOf x) bytes-nil (tree-bytes 256 (nodesOf x) (getD (x .child) (x .root) 0) h))
+
+-- and so are the fields of a record made of a map whose keys are bytes
+pub record-byte-fields : (es : List Entry) → isMap es ≡ true → Keys Bytes es → ByteFields (nodesOf (recordOf es))
+unfolding placeShape shape
+record-byte-fields es m k =
+    let l = labels-short [] (shape es) [] es (shape-gathered es m) in
+    let b = laid-bytes (shape es) 1 blank l (children-bytes 16 es k) blank-bytes in
+    subst⁻¹ (λ (x : Index). ByteFields (nodesOf x)) (record-is es) (record { len = b .len; key = b .key; label = b .label })

@@ -16,7 +16,7 @@ use Rattle.octets.specs.Compare.{orderOf, comesBefore}
 use Rattle.keys.specs.Entries.{Entry, entry, rising}
 use Rattle.radix.specs.Shape.{common, cut, prefixOf, firstByte}
 use Rattle.keys.specs.Table.{lengthOf, Columns, rowAt, rowsFrom}
-use Rattle.radix.specs.Layout.{alike}
+use Rattle.radix.specs.Sprout.{alike}
 use Rattle.radix.specs.Rows.{alikeAt, restAt}
 use Rattle.keys.proofs.Laws.{Keys, before-le, before-nil, rising-tail, above-keys}
 use Rattle.radix.proofs.Keys.{StartsAt, From}

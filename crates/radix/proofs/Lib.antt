@@ -26,4 +26,5 @@ pub mod Cells
 pub mod Readback
 pub mod Fields
 pub mod KeyBytes
+pub mod FieldBytes
 pub mod Laws

@@ -11,7 +11,7 @@ use Rattle.octets.specs.Pick.{pick, both}
 use Rattle.keys.specs.Entries.{Entry, rising, isMap}
 use Rattle.radix.specs.Shape.{Shape, nil, node, prefixOf, ownEntry, entriesIn, shape}
 use Rattle.radix.specs.Canon.{isNil}
-use Rattle.radix.specs.Layout.{group, stretch, ownFirst, afterOwn, sproutNode, sprout}
+use Rattle.radix.specs.Sprout.{group, stretch, ownFirst, afterOwn, sproutNode, sprout}
 use Rattle.radix.proofs.Under.{under, remainders, entries-node, prefix-cut, length-under}
 use Rattle.radix.proofs.Keys.{StartsAt, From, short-under}
 use Rattle.keys.proofs.Laws.{Short, keys-left, keys-right, rising-right, map-rising, map-length, map-fit}

@@ -1,17 +1,14 @@
 -- How a shape is laid into the pool: the later siblings of a node first, then what lies below it, then the node, each at the next free
 -- place. {foo: 7, foobar: 9}: bar at 1, foo at 2, and the root at 0 (the drawing of Record). Assumes nothing.
-use mathlib.Core.Bool.{Bool, true, false}
 use mathlib.Core.Path.{_≡_, refl}
-use mathlib.Core.List.{List, [], _∷_}
+use mathlib.Core.List.{List}
 use mathlib.Core.Option.{Option, some, none}
-use Prim.Native.Nat.{ℕ, zero, suc, _+_, _*_}
-use lib.Dec.{eqb}
-use lib.ListN.{length, set, take, drop}
-use Rattle.octets.specs.Pick.{pick, both}
+use Prim.Native.Nat.{ℕ, _+_, _*_}
+use lib.ListN.{length, set}
 use Rattle.octets.specs.Bytes.{zeros}
 use Rattle.octets.specs.Place.{put}
 use Rattle.keys.specs.Entries.{Entry}
-use Rattle.radix.specs.Shape.{Shape, nil, node, nodes, prefixOf, cut, firstByte, shape}
+use Rattle.radix.specs.Shape.{Shape, nil, node, nodes, shape}
 use Rattle.radix.specs.Record.{Nodes}
 use Rattle.radix.specs.declared.Index.{Index}
 
@@ -73,42 +70,3 @@ recordOf es = placeShape (shape es)
 pub record-is : (es : List Entry) → recordOf es ≡ placeShape (shape es)
 unfolding recordOf
 record-is es = refl
-
--- The shape of rising entries, made in one pass: how many of them start like the first
-unfoldable pub alike : ℕ → List Entry → ℕ
-alike b [] = 0
-alike b (e ∷ es) = pick (eqb (firstByte (e .key)) b) (suc (alike b es)) 0
-
-abbrev pub group : List Entry → ℕ
-group [] = 0
-group (e ∷ es) = suc (alike (firstByte (e .key)) es)
-
--- how long their label is: a run for an only child, else one byte
-abbrev pub stretch : Bool → List Entry → ℕ
-stretch first es = pick (both first (eqb (group es) (length es))) (length (prefixOf es)) 1
-
--- the key that ends here comes first, if there is one
-abbrev pub ownFirst : List Entry → Option ℕ
-ownFirst [] = none
-ownFirst (e ∷ es) = elim (e .key) [ [] ↦ some (e .value) | b ∷ k ↦ none ]
-
-abbrev pub afterOwn : List Entry → List Entry
-afterOwn [] = []
-afterOwn (e ∷ es) = elim (e .key) [ [] ↦ es | b ∷ k ↦ e ∷ es ]
-
-abbrev pub firstKey : List Entry → List ℕ
-firstKey [] = []
-firstKey (e ∷ es) = e .key
-
-abbrev pub sproutNode : (Bool → List Entry → Shape) → ℕ → List Entry → List Entry → Shape
-sproutNode go n es later =
-    node (take n (firstKey es)) (ownFirst (cut n es)) (go true (afterOwn (cut n es))) (go false later)
-
-abbrev pub sproutAll : (Bool → List Entry → Shape) → Bool → List Entry → Shape
-sproutAll go first [] = nil
-sproutAll go first (e ∷ es) = sproutNode go (stretch first (e ∷ es)) (take (group (e ∷ es)) (e ∷ es)) (drop (group (e ∷ es)) (e ∷ es))
-
--- siblings and what lies below them; `first` says that none stands before them
-unfoldable pub sprout : ℕ → Bool → List Entry → Shape
-sprout zero first es = nil
-sprout (suc most) first es = sproutAll (sprout most) first es

@@ -5,6 +5,7 @@ pub mod Record
 pub mod Layout
 -- How the code goes about it; the laws of proofs/ tie these to the above.
 pub mod Canon
+pub mod Sprout
 pub mod Gathering
 pub mod Rows
 pub mod Answer

@@ -31,7 +31,6 @@ use Rattle.octets.specs.Place.{area}
 use Rattle.octets.specs.Compare.{allZero, same}
 use Rattle.keys.specs.Entries.{Entry, isMap}
 use Rattle.radix.specs.Shape.{Shape, nil, node, entriesIn, shape}
-use Rattle.radix.specs.Canon.{isNil, isOnly, isOneOf}
 use Rattle.radix.specs.declared.Index.{Index}
 use Rattle.keys.specs.Table.{lengthOf}
 
@@ -72,13 +71,6 @@ treeAt (suc most) x link = nodeAt (treeAt most x) x link
 -- whether that is a node
 abbrev pub leadsOn : ℕ → ℕ → Bool
 leadsOn most link = both (ltb 0 most) (both (ltb 0 link) (leb link 256))
-
--- the rule of a shape that is due at place p, whose children and later siblings go on for `most` nodes
-unfoldable pub ruleAt : Bool → ℕ → ℕ → Nodes → ℕ → Bool
-ruleAt first least most x p =
-    pick (both first (isNil (treeAt most x (getD (x .next) p 0))))
-    (isOnly (labelOf x p) (valueOf x p) (treeAt most x (getD (x .child) p 0)))
-    (isOneOf least (labelOf x p) (valueOf x p) (treeAt most x (getD (x .child) p 0)))
 
 -- a mark at every place that a link leads to, and at those that are reached from there; `go` goes on. None where the link leaves the
 -- pool, or where a place has its mark already

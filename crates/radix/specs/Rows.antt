@@ -10,7 +10,7 @@ use Rattle.octets.specs.Place.{area}
 use Rattle.keys.specs.Entries.{Entry, rising}
 use Rattle.radix.specs.Shape.{common, cut, nodes}
 use Rattle.keys.specs.Table.{lengthOf, Columns, rowsFrom}
-use Rattle.radix.specs.Layout.{sprout}
+use Rattle.radix.specs.Sprout.{sprout}
 
 -- how many of the n rows from i on have the byte c at d, before one that has not
 unfoldable pub alikeAt : List ℕ → ℕ → ℕ → ℕ → ℕ → ℕ

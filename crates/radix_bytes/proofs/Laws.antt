@@ -6,10 +6,10 @@ use native.Mathlib.Omega.{arith}
 use lib.ListN.{length, length-append}
 use Rattle.octets.specs.Bytes.{Bytes, le, leValue}
 use Rattle.octets.specs.Place.{area, put}
-use Rattle.octets.proofs.Laws.{length-le, value-le, le-value, value-le-lt, length-area, bytes-area, bytes-append, bytes-le, area-add, area-all, area-left, area-right, area-append-right, area-after, put-append, put-all, put-area, length-put}
+use Rattle.octets.proofs.Laws.{length-le, value-le, le-value, length-area, bytes-area, bytes-append, bytes-le, area-add, area-all, area-left, area-right, area-append-right, area-after, put-append, put-all, put-area, length-put}
 use Rattle.radix.specs.declared.Index.{Index}
-use Rattle.radix_bytes.specs.Bytes.{wordBytes, wordsAt, bytesOf, recordFrom, Fit, Typed}
-use Rattle.radix_bytes.proofs.Words.{length-words, length-words-at, words-right, words-back, words-again, words-fit, bytes-words}
+use Rattle.radix_bytes.specs.Bytes.{wordBytes, wordsAt, bytesOf, recordFrom, Fit}
+use Rattle.radix_bytes.proofs.Words.{length-words, words-right, words-back, words-again, bytes-words}
 pub use Rattle.radix_bytes.proofs.Places.{len-of, key-of, child-of, next-of, value-of, label-of, label-in, label-size}
 
 -- what stands after a part of n bytes
@@ -59,22 +59,17 @@ record-again x r l k c fc n fn v fv b =
     (words-after 4 a t2 2 1536 256 la ∙ words-after 4 (x .len) t3 256 1280 256 l ∙ words-after 4 (x .key) t4 256 1024 256 k ∙ words-after 4 wc t5 512 512 256 lc ∙ words-after 4 wn t6 512 0 256 ln ∙ words-first 4 256 (x .val) (x .label) v fv)
     (after a t2 2 2560 4096 la ∙ after (x .len) t3 256 2304 4096 l ∙ after (x .key) t4 256 2048 4096 k ∙ after wc t5 512 1536 4096 lc ∙ after wn t6 512 1024 4096 ln ∙ area-right wv (x .label) 1024 4096 lv b)
 
-pub record-back : (x : Index) → Typed x → recordFrom (bytesOf x) ≡ x
-record-back x t =
-    record-again x (t .root) (t .len) (t .key) (t .child) (t .child-fit) (t .next) (t .next-fit) (t .val) (t .val-fit) (t .label)
-
-pub length-bytes : (x : Index) → Typed x → length (bytesOf x) ≡ 6658
+-- how many bytes there are, each of them a byte
+pub length-bytes : (x : Index) → length (x .len) ≡ 256 → length (x .key) ≡ 256 → length (x .child) ≡ 256 → length (x .next) ≡ 256 → length (x .val) ≡ 256 → length (x .label) ≡ 4096
+    → length (bytesOf x) ≡ 6658
 unfolding bytesOf
-length-bytes x t =
-    let c = length-words 2 (x .child) in
-    let n = length-words 2 (x .next) in
-    let v = length-words 4 (x .val) in
-    simp (length-append, length-le) (omega (arith, t .len, t .key, t .child, t .next, t .val, t .label, c, n, v))
+length-bytes x l k c n v b =
+    simp (length-append, length-le) (omega (arith, l, k, b, wide-words 2 256 512 (x .child) c refl, wide-words 2 256 512 (x .next) n refl, wide-words 4 256 1024 (x .val) v refl))
 
-pub bytes-bytes : (x : Index) → Typed x → Bytes (bytesOf x)
+pub bytes-bytes : (x : Index) → Bytes (x .len) → Bytes (x .key) → Bytes (x .label) → Bytes (bytesOf x)
 unfolding bytesOf
-bytes-bytes x t =
-    bytes-append (bytes-le 2 (x .root)) (bytes-append (t .len-bytes) (bytes-append (t .key-bytes) (bytes-append (bytes-words 2 (x .child)) (bytes-append (bytes-words 2 (x .next)) (bytes-append (bytes-words 4 (x .val)) (t .label-bytes))))))
+bytes-bytes x l k b =
+    bytes-append (bytes-le 2 (x .root)) (bytes-append l (bytes-append k (bytes-append (bytes-words 2 (x .child)) (bytes-append (bytes-words 2 (x .next)) (bytes-append (bytes-words 4 (x .val)) b)))))
 
 -- bytes written back of what was read of them
 pub bytes-back : (s : List ℕ) → Bytes s → length s ≡ 6658 → bytesOf (recordFrom s) ≡ s
@@ -91,25 +86,6 @@ bytes-back s h l =
     ∙ join 0 2 6656 s
     ∙ ap (λ (i : ℕ). area 0 i s) (sym l)
     ∙ area-all s
-
-pub record-typed : (s : List ℕ) → Bytes s → length s ≡ 6658 → Typed (recordFrom s)
-unfolding recordFrom
-record-typed s h l =
-    record {
-      root = rw (length-area 0 2 s (omega arith)) at (value-le-lt (area 0 2 s) (bytes-area 0 2 h));
-      len = length-area 2 256 s (omega arith);
-      len-bytes = bytes-area 2 256 h;
-      key = length-area 258 256 s (omega arith);
-      key-bytes = bytes-area 258 256 h;
-      child = length-words-at 2 s 514 256;
-      child-fit = words-fit 2 s 514 256 h (omega arith);
-      next = length-words-at 2 s 1026 256;
-      next-fit = words-fit 2 s 1026 256 h (omega arith);
-      val = length-words-at 4 s 1538 256;
-      val-fit = words-fit 4 s 1538 256 h (omega arith);
-      label = length-area 2562 4096 s (omega arith);
-      label-bytes = bytes-area 2562 4096 h;
-    }
 
 pub label-bytes : (s : List ℕ) → Bytes s → Bytes (recordFrom s .label)
 unfolding recordFrom

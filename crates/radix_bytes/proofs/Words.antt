@@ -7,7 +7,7 @@ use native.Mathlib.Omega.{arith}
 use lib.ListN.{length, drop, getD, length-append, drop-of-length-le}
 use Rattle.octets.specs.Bytes.{Bytes, le, leValue}
 use Rattle.octets.specs.Place.{area, put}
-use Rattle.octets.proofs.Laws.{cut, length-le, value-le, le-value, value-le-lt, length-area, bytes-area, bytes-nil, bytes-append, bytes-le, area-add, area-none, area-left, area-append-right, put-append, put-none, length-put}
+use Rattle.octets.proofs.Laws.{cut, length-le, value-le, le-value, length-area, bytes-area, bytes-nil, bytes-append, bytes-le, area-add, area-none, area-left, area-append-right, put-append, put-none, length-put}
 use Rattle.radix_bytes.specs.Bytes.{wordBytes, wordsAt, Fit}
 
 pub length-words : (w : ℕ) (vs : List ℕ) → length (wordBytes w vs) ≡ w * length vs
@@ -15,11 +15,6 @@ unfolding wordBytes
 length-words w [] = omega arith
 length-words w (v ∷ vs) =
     omega (arith, length-append (le w v) (wordBytes w vs), length-le w v, length-words w vs)
-
-pub length-words-at : (w : ℕ) (s : List ℕ) (at n : ℕ) → length (wordsAt w s at n) ≡ n
-unfolding wordsAt
-length-words-at w s at zero = refl
-length-words-at w s at (suc n) = ap suc (length-words-at w s (at + w) n)
 
 pub words-right : (w : ℕ) (xs ys : List ℕ) (at n : ℕ) → wordsAt w (xs ++ ys) (length xs + at) n ≡ wordsAt w ys at n
 unfolding wordsAt
@@ -51,14 +46,6 @@ words-again w s at (suc n) b h =
     ap₂ (λ (xs ys : List ℕ). xs ++ ys) (ap (λ (i : ℕ). le i (leValue (area at w s))) (sym l) ∙ le-value (area at w s) (bytes-area at w b)) (words-again w s (at + w) n b (omega arith))
     ∙ sym (area-add at w (w * n) s)
     ∙ ap (λ (m : ℕ). area at m s) (sym e)
-
-pub words-fit : (w : ℕ) (s : List ℕ) (at n : ℕ) → Bytes s → at + w * n ≤ length s → Fit w (wordsAt w s at n)
-unfolding wordsAt
-words-fit w s at zero b h = tt
-words-fit w s at (suc n) b h =
-    let e : w * suc n ≡ w + w * n = omega arith in
-    let l : length (area at w s) ≡ w = length-area at w s (omega arith) in
-    (rw l at (value-le-lt (area at w s) (bytes-area at w b)), words-fit w s (at + w) n b (omega arith))
 
 pub bytes-words : (w : ℕ) (vs : List ℕ) → Bytes (wordBytes w vs)
 unfolding wordBytes

@@ -5,10 +5,8 @@
 --
 -- Each undoes the other on records whose arrays are as long as that, with elements of their types: proofs/Laws. Assumes nothing.
 use mathlib.Core.List.{List, [], _∷_, _++_}
-use mathlib.Core.Path.{_≡_}
 use Prim.Native.Nat.{ℕ, zero, suc, _+_, _*_, _^_, _<_}
-use lib.ListN.{length}
-use Rattle.octets.specs.Bytes.{Bytes, le, leValue}
+use Rattle.octets.specs.Bytes.{le, leValue}
 use Rattle.octets.specs.Place.{area}
 use Rattle.radix.specs.declared.Index.{Index}
 use Rattle.radix.specs.Record.{Nodes, nodesOf}
@@ -51,19 +49,3 @@ poolIn s = nodesOf (recordFrom s)
 abbrev pub Fit : ℕ → List ℕ → Type 0
 Fit w [] = Unit {0}
 Fit w (v ∷ vs) = (v < 2 ^ (8 * w)) × Fit w vs
-
--- what the types of the fields say
-pub record Typed (x : Index) : Type 0 where
-  pub root : x .root < 2 ^ 16
-  pub len : length (x .len) ≡ 256
-  pub len-bytes : Bytes (x .len)
-  pub key : length (x .key) ≡ 256
-  pub key-bytes : Bytes (x .key)
-  pub child : length (x .child) ≡ 256
-  pub child-fit : Fit 2 (x .child)
-  pub next : length (x .next) ≡ 256
-  pub next-fit : Fit 2 (x .next)
-  pub val : length (x .val) ≡ 256
-  pub val-fit : Fit 4 (x .val)
-  pub label : length (x .label) ≡ 4096
-  pub label-bytes : Bytes (x .label)

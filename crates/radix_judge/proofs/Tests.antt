@@ -16,10 +16,10 @@ use Rattle.octets.specs.Compare.{allZero}
 use Rattle.octets.proofs.Laws.{both-assoc, both-false, all-zero, zero-all, length-area, area-add, area-area, area-none, area-zeros, part-area, bytes-area, value-le-lt}
 use Rattle.keys.specs.Table.{lengthOf}
 use Rattle.radix.specs.Canon.{isNil, isOnly, isOneOf}
-use Rattle.radix.specs.Record.{Nodes, labelOf, valueOf, treeAt, ruleAt, isRoot, isTidy}
+use Rattle.radix.specs.Record.{Nodes, labelOf, valueOf, treeAt, isRoot, isTidy}
 use Rattle.radix_bytes.specs.Bytes.{poolIn}
 use Rattle.radix_bytes.proofs.Laws.{label-of}
-use Rattle.radix_judge.specs.Visit.{isFit}
+use Rattle.radix_judge.specs.Visit.{ruleAt, isFit}
 
 -- which rule is due
 module _ (first : Bool) (least : ℕ) (x : Nodes) (left p : ℕ) (t : Bool) (e : t ≡ both first (isNil (treeAt left x (getD (x .next) p 0)))) where

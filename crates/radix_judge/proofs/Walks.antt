@@ -17,10 +17,10 @@ use Rattle.keys.specs.Entries.{Entry, entry}
 use Rattle.keys.specs.Table.{lengthOf}
 use Rattle.radix.specs.Shape.{Shape, nil, node, firstByte}
 use Rattle.radix.specs.Canon.{rules}
-use Rattle.radix.specs.Record.{Nodes, labelOf, valueOf, treeAt, ruleAt, marksFrom, isFlag, isTidy}
+use Rattle.radix.specs.Record.{Nodes, labelOf, valueOf, treeAt, marksFrom, isFlag, isTidy}
 use Rattle.radix.specs.Gathering.{withOwn, gathered}
 use Rattle.radix.proofs.Laws.{step, tree-nil}
-use Rattle.radix_judge.specs.Visit.{Seen, seen, isFit, visit}
+use Rattle.radix_judge.specs.Visit.{ruleAt, Seen, seen, isFit, visit}
 
 -- a key flag is 0 or 1
 by-flag : {P : Type 0} (f v : ℕ) → isFlag f v ≡ true → (f ≡ 0 → v ≡ 0 → P) → (f ≡ 1 → P) → P

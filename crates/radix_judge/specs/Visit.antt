@@ -15,8 +15,16 @@ use Rattle.keys.specs.Entries.{mostKeys}
 use Rattle.keys.specs.Listing.{ifSo}
 use Rattle.keys.specs.Table.{lengthOf}
 use Rattle.radix.specs.Shape.{firstByte}
-use Rattle.radix.specs.Record.{Nodes, nodesOf, labelOf, ruleAt, isTidy, isFree, isRoot}
+use Rattle.radix.specs.Canon.{isNil, isOnly, isOneOf}
+use Rattle.radix.specs.Record.{Nodes, nodesOf, labelOf, valueOf, treeAt, isTidy, isFree, isRoot}
 use Rattle.radix.specs.declared.Index.{Index}
+
+-- the rule of a shape that is due at place p, whose children and later siblings go on for `most` nodes
+unfoldable pub ruleAt : Bool → ℕ → ℕ → Nodes → ℕ → Bool
+ruleAt first least most x p =
+    pick (both first (isNil (treeAt most x (getD (x .next) p 0))))
+    (isOnly (labelOf x p) (valueOf x p) (treeAt most x (getD (x .child) p 0)))
+    (isOneOf least (labelOf x p) (valueOf x p) (treeAt most x (getD (x .child) p 0)))
 
 -- what a walk leaves: how many keys it has met, and the marks
 pub record Seen : Type 0 where

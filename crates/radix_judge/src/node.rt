@@ -8,9 +8,9 @@ ghost use Rattle.octets.specs.Pick.{both};
 ghost use Rattle.octets.specs.Place.{area};
 ghost use Rattle.octets.specs.Compare.{allZero};
 ghost use Rattle.radix.specs.Canon.{isNil, areSeveral, isOnly, isOneOf};
-ghost use Rattle.radix.specs.Record.{labelOf, valueOf, treeAt, ruleAt, isFlag, isTidy};
+ghost use Rattle.radix.specs.Record.{labelOf, valueOf, treeAt, isFlag, isTidy};
 ghost use Rattle.radix_bytes.specs.Bytes.{recordSize, poolIn};
-ghost use Rattle.radix_judge.specs.Visit.{isFit};
+ghost use Rattle.radix_judge.specs.Visit.{ruleAt, isFit};
 
 // Whether a link leads to a node that has a sibling.
 fn several(s: &[u8], left: usize, link: usize) -> bool

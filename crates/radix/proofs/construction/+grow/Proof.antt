@@ -14,7 +14,8 @@ use Rattle.octets.specs.Place.{area}
 use Rattle.radix.specs.Shape.{Shape, node, nodes}
 use Rattle.radix.specs.Record.{Nodes, lent}
 use Rattle.keys.specs.Table.{lengthOf, Columns, columns}
-use Rattle.radix.specs.Layout.{sprout, laid, withCell}
+use Rattle.radix.specs.Layout.{laid, withCell}
+use Rattle.radix.specs.Sprout.{sprout}
 use Rattle.radix.specs.Rows.{restAt, Ready}
 use Rattle.radix.proofs.Laying.{rest-nil}
 use Rattle.radix.proofs.Sprouts.{sprout-none}
