@@ -14,6 +14,6 @@ pub use Rattle.snapshot.proofs.Parts.{cut-parts, parts-of, bodies-join,
 pub use Rattle.snapshot.proofs.Sizes.{body-most, parts-count, bodies-most, snapshot-most}
 pub use Rattle.snapshot.proofs.Snapshots.{snapshot-parse, SnapshotOf, parse-snapshot, snapshot-injective}
 pub use Rattle.snapshot.proofs.Judged.{node-in, snapshot-judge, judge-snapshot, judge-is}
-pub use Rattle.snapshot.proofs.Saved.{SaveAccepted, save-accepted, save-writes, LoadAccepted, load-accepted, load-does, load-model, load-after-save, save-after-load, saves-same}
+pub use Rattle.snapshot.proofs.Saved.{SaveAccepted, save-accepted, save-writes, LoadAccepted, load-accepted, load-refused, load-no-slot, load-no-snapshot, load-too-many, load-fits, load-does, load-model, load-after-save, save-after-load, saves-same}
 pub use Rattle.snapshot.proofs.Turned.{turn-answer, turn-ledger, turn-alone}
 pub use Rattle.snapshot.proofs.Slips.{slip-most}

@@ -1,40 +1,24 @@
 -- Every command on a model, save and load among them, is the plain ledger's with the cut beside it; of the answers only refusal 7
 -- depends on the cut. Assumes nothing.
 use mathlib.Core.Path.{_≡_, refl, sym, ap, _∙_}
-use mathlib.Core.Bool.{Bool, true, false}
-use mathlib.Core.List.{List}
-use mathlib.Core.Option.{Option, some, none}
+use mathlib.Core.Bool.{true}
 use Prim.Native.Nat.{ℕ}
-use lib.Dec.{leb, eqb}
-use lib.ListN.{length}
-use Rattle.octets.specs.Pick.{pick}
 use Rattle.stream.specs.Ledger.{Ledger}
-use Rattle.stream.specs.Cut.{Model, ledgerOf, isModel, freshCut}
-use Rattle.stream.specs.Command.{done, refused}
-use Rattle.stream.specs.LedgerStep.{LedgerStep, Beside}
+use Rattle.stream.specs.Cut.{Model, ledgerOf, isModel}
+use Rattle.stream.specs.LedgerStep.{LedgerStep}
 use Rattle.stream.specs.Step.{Step}
 use Rattle.stream.proofs.Laws.{ledger-step, answer-step, fresh-ledger, Alone, one-answer, cut-alone}
-use Rattle.snapshot.specs.Parse.{parseSnapshot}
-use Rattle.snapshot.specs.Command.{Command, onStream, save, load, loaded, refuses, loadsFile, loads, stepOf}
-use Rattle.snapshot.specs.Ledger.{onSnapshot, onLoad, ledgerTurn, besideTurn}
+use Rattle.snapshot.specs.Command.{Command, onStream, save, load, Loading, refusing, loading, loads, loadsTo, stepOf}
+use Rattle.snapshot.specs.Ledger.{onLoad, ledgerTurn, besideTurn}
 
 -- a step of a model that answers and leaves as one of the ledger does
 record Tells (s : Step) (t : LedgerStep) : Type 0 where
   answer-is : s .answer ≡ t .answer
   ledger-is : ledgerOf (s .after) ≡ t .after
 
-load-tells : (b : Beside) (file : List ℕ) (m : Model) → Tells (loads (b .slots) file m) (onLoad b file (ledgerOf m))
-unfolding loads onLoad
-load-tells b file m = by (eqb (b .slots) 0) (parseSnapshot file)
-  where
-    fitting : (t : Bool) (l : Ledger) → Tells (pick t (record { answer = done; after = loaded l }) (refuses m 17)) (pick t (record { answer = done; after = l }) (record { answer = refused 17; after = ledgerOf m }))
-    fitting true l = record { answer-is = refl; ledger-is = fresh-ledger l }
-    fitting false l = record { answer-is = refl; ledger-is = refl }
-
-    by : (t : Bool) (o : Option Ledger) → Tells (pick t (refuses m 1) (loadsFile (b .slots) o m)) (pick t (record { answer = refused 1; after = ledgerOf m }) (onSnapshot b o (ledgerOf m)))
-    by true o = record { answer-is = refl; ledger-is = refl }
-    by false none = record { answer-is = refl; ledger-is = refl }
-    by false (some l) = fitting (leb (length (freshCut (l .messages))) (b .slots)) l
+load-tells : (x : Loading) (m : Model) → Tells (loadsTo x m) (onLoad x (ledgerOf m))
+load-tells (refusing n) m = record { answer-is = refl; ledger-is = refl }
+load-tells (loading l) m = record { answer-is = refl; ledger-is = fresh-ledger l }
 
 module _ (slots : ℕ) (c : Command) (m : Model) where
   pub turn-answer : stepOf slots c m .answer ≡ ledgerTurn (besideTurn slots c m) c (ledgerOf m) .answer
@@ -43,7 +27,7 @@ module _ (slots : ℕ) (c : Command) (m : Model) where
       by : (c : Command) → stepOf slots c m .answer ≡ ledgerTurn (besideTurn slots c m) c (ledgerOf m) .answer
       by (onStream c) = answer-step slots c m
       by (save room) = refl
-      by (load file) = load-tells (record { slots = slots; full = false }) file m .answer-is
+      by (load file) = load-tells (loads slots file) m .answer-is
 
   pub turn-ledger : isModel slots m ≡ true → ledgerOf (stepOf slots c m .after) ≡ ledgerTurn (besideTurn slots c m) c (ledgerOf m) .after
   turn-ledger e = by c
@@ -51,7 +35,7 @@ module _ (slots : ℕ) (c : Command) (m : Model) where
       by : (c : Command) → ledgerOf (stepOf slots c m .after) ≡ ledgerTurn (besideTurn slots c m) c (ledgerOf m) .after
       by (onStream c) = ledger-step slots c m e
       by (save room) = refl
-      by (load file) = load-tells (record { slots = slots; full = false }) file m .ledger-is
+      by (load file) = load-tells (loads slots file) m .ledger-is
 
 -- two models of one ledger
 pub turn-alone : (slots : ℕ) (c : Command) (m n : Model) → isModel slots m ≡ true → isModel slots n ≡ true → ledgerOf m ≡ ledgerOf n
@@ -61,5 +45,5 @@ turn-alone slots (save room) m n e f l =
     one-answer (turn-answer slots (save room) m ∙ ap (λ (k : Ledger). ledgerTurn (besideTurn slots (save room) m) (save room) k .answer) l) l
 turn-alone slots (load file) m n e f l =
     one-answer
-    (turn-answer slots (load file) m ∙ ap (λ (k : Ledger). onLoad (record { slots = slots; full = false }) file k .answer) l ∙ sym (turn-answer slots (load file) n))
-    (turn-ledger slots (load file) m e ∙ ap (λ (k : Ledger). onLoad (record { slots = slots; full = false }) file k .after) l ∙ sym (turn-ledger slots (load file) n f))
+    (turn-answer slots (load file) m ∙ ap (λ (k : Ledger). onLoad (loads slots file) k .answer) l ∙ sym (turn-answer slots (load file) n))
+    (turn-ledger slots (load file) m e ∙ ap (λ (k : Ledger). onLoad (loads slots file) k .after) l ∙ sym (turn-ledger slots (load file) n f))

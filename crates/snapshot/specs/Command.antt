@@ -38,20 +38,28 @@ loaded l = modelOf (freshCut (l .messages)) l
 abbrev pub refuses : Model → ℕ → Step
 refuses m n = record { answer = Stream.refused n; after = m }
 
+-- what a load of a file does, whatever the store held: it is refused, or this ledger is then held
+pub data Loading : Type 0 where
+  refusing : ℕ → Loading
+  loading : Ledger → Loading
+
 -- 16, not a snapshot; 17, more nodes than slots
-abbrev pub loadsFile : ℕ → Option Ledger → Model → Step
-loadsFile slots none m = refuses m 16
-loadsFile slots (some l) m =
-    pick (leb (length (freshCut (l .messages))) slots) (record { answer = Stream.done; after = loaded l }) (refuses m 17)
+abbrev pub loadingOf : ℕ → Option Ledger → Loading
+loadingOf slots none = refusing 16
+loadingOf slots (some l) = pick (leb (length (freshCut (l .messages))) slots) (loading l) (refusing 17)
 
 -- load: 1, a store without a slot
-unfoldable pub loads : ℕ → List ℕ → Model → Step
-loads slots file m = pick (eqb slots 0) (refuses m 1) (loadsFile slots (parseSnapshot file) m)
+unfoldable pub loads : ℕ → List ℕ → Loading
+loads slots file = pick (eqb slots 0) (refusing 1) (loadingOf slots (parseSnapshot file))
+
+abbrev pub loadsTo : Loading → Model → Step
+loadsTo (refusing n) m = refuses m n
+loadsTo (loading l) m = record { answer = Stream.done; after = loaded l }
 
 abbrev pub stepOf : ℕ → Command → Model → Step
 stepOf slots (onStream c) m = step slots c m
 stepOf slots (save room) m = record { answer = saveReply room (ledgerOf m); after = m }
-stepOf slots (load file) m = loads slots file m
+stepOf slots (load file) m = loadsTo (loads slots file) m
 
 -- set up and load never answer 2: they heal a damaged store when accepted
 abbrev pub isSetUp : Stream.Command → Bool

@@ -17,6 +17,7 @@ use Rattle.stream.specs.LedgerStep.{replyTo}
 use Rattle.stream.specs.Promise.{Lent, heldBy, slotsOf}
 use Rattle.stream.proofs.Laws.{answer-step}
 use Rattle.snapshot.specs.Command.{onStream, turn}
+use Rattle.snapshot.specs.Promise.{Does}
 use Rattle.wallathi.specs.Export.{Seen, seen, tellTo}
 use Rattle.wallathi.specs.Run.{call, Meets}
 use Rattle.wallathi.specs.Demands.{ledgerBy}
@@ -24,7 +25,7 @@ use Rattle.wallathi.proofs.Turns.{does-turn}
 use Rattle.wallathi.proofs.Refused.{refused-keeps}
 
 -- a query is answered from the ledger that the store holds
-query-seen : (q : Query) (values output : List ℕ) (i j : Lent) (s : Seen) (l : Ledger) → Meets (call (λ _. onStream (asks q)) values output) i s j
+query-seen : (q : Query) (values output : List ℕ) (i j : Lent) (s : Seen) (l : Ledger) → Does (tellTo values output) (onStream (asks q)) i s j
     → ledgerBy i ≡ some l → s ≡ tellTo values output (replyTo q l)
 query-seen q values output i j s l d e = by (heldBy i) e (does-turn (tellTo values output) i j s (onStream (asks q)) d .told-is)
   where
@@ -39,6 +40,6 @@ pub absent-field : (i j : Lent) (s : Seen) (id : Id) (name : List ℕ) (len : �
     → length name ≤ 1000 → valueOf name (x .pairs) ≡ none → (s ≡ seen 33 (len ∷ []) out) × (j ≡ i)
 absent-field i j s id name len out l x d e f h v =
     let z : replyTo (field id name (length out)) l ≡ absent = rw (le-leb (length name) 1000 h, f, v) in
-    let t : s ≡ seen 33 (len ∷ []) out = query-seen (field id name (length out)) (len ∷ []) out i j s l d e ∙ ap (tellTo (len ∷ []) out) z in
+    let t : s ≡ seen 33 (len ∷ []) out = query-seen (field id name (length out)) (len ∷ []) out i j s l (d .does) e ∙ ap (tellTo (len ∷ []) out) z in
     let n : s .code ≡ 33 = ap (λ (y : Seen). y .code) t in
     (t, refused-keeps (call (λ n. onStream (asks (field id name n))) (len ∷ []) out) i j s d (omega arith) .kept)

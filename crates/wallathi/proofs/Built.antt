@@ -10,25 +10,32 @@ use lib.Dec.{eqb}
 use lib.ListN.{length, drop}
 use borrow.Author.Tests.{lt-ltb, eqb-true, eqb-false}
 use Rattle.octets.specs.Pick.{pick}
-use Rattle.octets.proofs.Laws.{both-of}
+use Rattle.octets.specs.Place.{put}
+use Rattle.octets.specs.Bytes.{Bytes}
+use Rattle.octets.proofs.Laws.{both-of, bytes-zeros, bytes-put, put-all, length-area}
 use Rattle.id.specs.declared.Id.{Id}
 use Rattle.id.specs.Id.{least}
 use Rattle.id.specs.Bytes.{idBytes}
-use Rattle.id.proofs.Laws.{length-id-bytes, id-fits}
+use Rattle.id.proofs.Laws.{length-id-bytes, bytes-id}
 use Rattle.keys.specs.Entries as Index
 use Rattle.keys.proofs.Laws.{is-map, before-ids}
 use Rattle.node.specs.Bytes.{slotOf}
 use Rattle.node.specs.Rules.{risingFrom}
 use Rattle.node.specs.Answer.{lastOf}
 use Rattle.node.proofs.Laws.{slot-length}
-use Rattle.groups.specs.Area.{areaBytes}
-use Rattle.groups.proofs.Laws.{length-area-bytes, sound}
-use Rattle.state.proofs.Laws.{state-with}
+use Rattle.groups.specs.Group.{Group}
+use Rattle.groups.specs.Area.{areaBytes, areaSize, isGroups}
+use Rattle.groups.proofs.Laws.{length-area-bytes, length-groups-area, sound}
+use Rattle.state.specs.Layout.{groupsAt, indexArea, indexBytes, groupsArea}
+use Rattle.state.proofs.Laws.{AllBytes, state-with}
 use Rattle.stream.specs.Cut.{Node, Model, entriesOf, areNodes, isModel, slotsIn}
 use Rattle.stream.specs.Image.{slotAt}
 use Rattle.stream.specs.Laid.{slotHeld, indexOf}
 use Rattle.stream.specs.Promise.{Lent, lent, heldBy, slotsOf, tailOf}
-use Rattle.stream.proofs.Laws.{ModelRules, model-rules, first-node, rising-first, node-fits, keyAt, keys-rise, here, index-length, few-nodes, zeros-size, putSlot, slot-size, slot-put, slot-tail, held-laid, laid-image}
+use Rattle.stream.proofs.Laws.{ModelRules, model-rules, first-node, rising-first, node-fits, keyAt, keys-rise, here, index-length, few-nodes, zeros-size, putSlot, slot-size, slot-put, slot-tail, held-laid, image-laid, laid-image, regrouped, GroupsPut, groups-put, record-kept, laid-groups}
+use Rattle.wallathi.specs.Run.{AreBytes}
+use Rattle.wallathi.proofs.NodeBytes.{slot-is-bytes}
+use Rattle.wallathi.proofs.AreaBytes.{area-is-bytes}
 
 -- a slot is 4,096 bytes, whatever it holds
 held-size : (slots s : ℕ) (ns : List Node) → areNodes slots ns ≡ true → length (slotHeld s ns) ≡ 4096
@@ -71,6 +78,28 @@ written ns store h (suc k) l =
     by s true e g i = ap (λ (x : ℕ). slotHeld x ns) (sym (eqb-true s k e))
     by s false e g i = let d : (s ≡ k → ⊥) = eqb-false s k e in i (omega arith)
 
+-- all of it is bytes, where the store was
+held-bytes : (slots s : ℕ) (ns : List Node) → areNodes slots ns ≡ true → Bytes (slotHeld s ns)
+unfolding slotHeld
+held-bytes slots s [] h = bytes-zeros 4096
+held-bytes slots s (n ∷ ns) h =
+    let f = first-node slots n ns h in
+    by (eqb s (n .slot)) (slot-is-bytes (n .entries) (f .is-node)) (held-bytes slots s ns (f .others))
+  where
+    by : (t : Bool) → Bytes (slotOf (n .entries)) → Bytes (slotHeld s ns) → Bytes (pick t (slotOf (n .entries)) (slotHeld s ns))
+    by true a b = a
+    by false a b = b
+
+written-bytes : (slots : ℕ) (ns : List Node) → areNodes slots ns ≡ true → {store : List ℕ} → Bytes store → (k : ℕ) → Bytes (writeSlots ns store k)
+unfolding writeSlots
+written-bytes slots ns h b zero = b
+written-bytes slots ns h b (suc k) = bytes-put (k * 4096) (written-bytes slots ns h b k) (held-bytes slots k ns h)
+
+keys-bytes : (ns : List Node) → AllBytes (indexOf ns)
+unfolding indexOf
+keys-bytes [] = tt
+keys-bytes (n ∷ ns) = (bytes-id (keyAt n), keys-bytes ns)
+
 -- the index of nodes that keep the rules is a map
 above-keys : (slots : ℕ) (i : Id) (n : Node) (ns : List Node) → areNodes slots (n ∷ ns) ≡ true → risingFrom i (entriesOf (n ∷ ns)) ≡ true
     → Index.allAbove (idBytes (keyAt n)) (indexOf ns) ≡ true
@@ -99,15 +128,18 @@ index-map slots i ns l h r = is-map (indexOf ns) (omega (arith, index-length ns,
     rises [] h r = unfold indexOf in unfold Index.rising in refl
     rises (n ∷ ns) h r = unfold indexOf in unfold Index.rising in above-keys slots i n ns h r
 
--- store and state for the model m, where the store had these bytes: as many, and the same past the last slot
+-- store and state for the model m, where the store had these bytes: as many, and the same past the last slot; and the same where the
+-- groups alone change
 pub record Built (i : Lent) (m : Model) : Type 0 where
   pub lent-as : Lent
   pub holds : heldBy lent-as ≡ some m
   pub size-kept : length (lent-as .store) ≡ length (i .store)
   pub tail-kept : tailOf lent-as ≡ tailOf i
+  pub index-is : indexArea (lent-as .state) ≡ indexBytes (indexOf (m .nodes))
+  pub bytes : AreBytes lent-as
 
-pub built : (i : Lent) (m : Model) → isModel (slotsOf i) m ≡ true → Built i m
-built i m e =
+pub built : (i : Lent) → AreBytes i → (m : Model) → isModel (slotsOf i) m ≡ true → Built i m
+built i b m e =
     let r = model-rules (slotsOf i) m e in
     let w = written (m .nodes) (i .store) (r .nodes-are) (slotsOf i) (omega arith) in
     let store : List ℕ = writeSlots (m .nodes) (i .store) (slotsOf i) in
@@ -115,7 +147,7 @@ built i m e =
     let map : Index.isMap es ≡ true = index-map (slotsOf i) least (m .nodes) (min-le-right (length (i .store) / 4096) 64) (r .nodes-are) (r .rising) in
     let g = sound (m .last) (m .groups) (r .groups-are) in
     let x =
-    state-with (m .last) es (areaBytes (m .groups)) (id-fits (m .last) (r .last-fits)) map (length-area-bytes (m .last) (m .groups) (g .groups) (g .few)) in
+    state-with (m .last) es (areaBytes (m .groups)) map (length-area-bytes (m .last) (m .groups) (g .groups) (g .few)) in
     record {
       lent-as = lent store (x .state);
       holds =
@@ -125,4 +157,33 @@ built i m e =
           (x .size) (x .last-is) (x .holds) (x .groups-are));
       size-kept = w .size;
       tail-kept = ap (λ (n : ℕ). drop (slotsIn n * 4096) store) (w .size) ∙ w .tail;
+      index-is = x .written;
+      bytes = record {
+        store = written-bytes (slotsOf i) (m .nodes) (r .nodes-are) (b .store) (slotsOf i);
+        state = x .bytes (keys-bytes (m .nodes)) (area-is-bytes (m .last) (m .groups) (r .groups-are));
+      };
+    }
+
+-- the groups alone: the state with another groups area
+pub record Regrouped (i : Lent) (m : Model) (gs : List Group) : Type 0 where
+  pub lent-as : Lent
+  pub holds : heldBy lent-as ≡ some (regrouped m gs)
+  pub store-kept : lent-as .store ≡ i .store
+  pub index-kept : indexArea (lent-as .state) ≡ indexArea (i .state)
+  pub bytes : AreBytes lent-as
+
+pub regroup : (i : Lent) → AreBytes i → (m : Model) → heldBy i ≡ some m → (gs : List Group) → isGroups (m .last) gs ≡ true → Regrouped i m gs
+unfolding groupsArea
+regroup i b m e gs h =
+    let l = image-laid (i .store) (i .state) m (b .store) (b .state) e in
+    let n : length (areaBytes gs) ≡ areaSize = length-groups-area (m .last) gs h in
+    let state : List ℕ = put (i .state) groupsAt (areaBytes gs) in
+    let z : length (groupsArea (i .state)) ≡ areaSize = length-area groupsAt areaSize (i .state) (omega (arith, l .size)) in
+    let p : GroupsPut (i .state) state gs = groups-put (i .state) 0 (areaBytes gs) gs (l .size) (omega (arith, n)) (put-all (groupsArea (i .state)) (areaBytes gs) (n ∙ sym z)) in
+    record {
+      lent-as = lent (i .store) state;
+      holds = laid-image (i .store) state (regrouped m gs) (laid-groups (i .store) (i .state) state m gs l p h);
+      store-kept = refl;
+      index-kept = record-kept (i .state) state gs (l .size) p;
+      bytes = record { store = b .store; state = bytes-put groupsAt (b .state) (area-is-bytes (m .last) gs h) };
     }

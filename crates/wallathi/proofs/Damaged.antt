@@ -23,6 +23,6 @@ two tell (load file) i j t d e h = absurd (never refl h)
 pub damaged : {cs : List Call} {i k : Lent} {ss : List Seen} → Made cs i ss k → heldBy i ≡ none → NoneHeals cs → (ss ≡ twos cs) × (k ≡ i)
 damaged made-none e h = (refl, refl)
 damaged (made-more {c} {cs} {i} {j} {k} {s} {ss} m r) e h =
-    let x = two (tellTo (c .values) (c .output)) (commandOf c) i j s m e (h .0) in
+    let x = two (tellTo (c .values) (c .output)) (commandOf c) i j s (m .does) e (h .0) in
     let y = damaged r (ap heldBy (x .1) ∙ e) (h .1) in
     (ap₂ (λ (b : Seen) (bs : List Seen). b ∷ bs) (x .0) (y .0), y .1 ∙ x .1)

@@ -1,4 +1,5 @@
--- A command on a model that keeps the rules leaves the model as it is, or another ledger in a model that keeps them. Assumes nothing.
+-- A command on a model that keeps the rules leaves the model as it is, or other groups, or other messages in a model that keeps them.
+-- Assumes nothing.
 use mathlib.Core.Path.{_≡_, refl, sym, ap, _∙_, subst}
 use mathlib.Core.Bool.{Bool, true, false}
 use mathlib.Core.List.{List, [], _∷_}
@@ -26,19 +27,20 @@ use Rattle.groups.specs.Group.{Pending, Group, isName, mostPending}
 use Rattle.groups.specs.Area.{areaBytes, parseArea, isGroups, mostGroups}
 use Rattle.groups.specs.Step as Groups
 use Rattle.groups.proofs.Laws.{area-parse, put-found-same, deliver-groups, acknowledge-groups, claim-groups, drop-groups, create-groups, destroy-groups}
-use Rattle.stream.specs.Ledger.{Ledger, withMessages, messagesAbove}
-use Rattle.stream.specs.Cut.{Node, Model, messagesOf, ledgerOf, isModel, addMessage, lacksSlot, deleteOldest}
+use Rattle.stream.specs.Ledger.{withMessages, messagesAbove}
+use Rattle.stream.specs.Cut.{Node, Model, messagesOf, ledgerOf, isModel, addMessage, lacksSlot, deleteMessage, deleteOldest}
 use Rattle.stream.specs.Command as Stream
 use Rattle.stream.specs.Command.{Answer, refused, done, counted}
 use Rattle.stream.specs.LedgerStep.{GroupStep, leaves, clockId, onCreate, onGroup, onTrim, delivers, acknowledges, claims, nameRefusal, argumentRefusal, requestRefusal}
 use Rattle.stream.specs.Step.{Step, step}
-use Rattle.stream.proofs.Laws.{model-rules, model-ledger, ledger-rules, model-of, model-keep, model-delete, model-trim, model-add, renoded, stepOf, regrouped, step-refused, step-stays, step-groups, step-goes, step-asks, name-kept, second-kept, step-unruled, step-no-group, step-in-group, Adds, adds-by-id, clock-above, add-no-slip, clock-no-slip, add-low, clock-exhausted, add-large, add-full, add-goes, delete-none, trim-none, messages-delete, messages-oldest, messages-add, delete-differs, trim-differs, add-differs}
+use Rattle.stream.proofs.Laws.{model-rules, model-ledger, ledger-rules, model-delete, model-trim, model-add, renoded, stepOf, regrouped, step-refused, step-stays, step-groups, step-goes, step-asks, name-kept, second-kept, step-unruled, step-no-group, step-in-group, Adds, adds-by-id, clock-above, add-no-slip, clock-no-slip, add-low, clock-exhausted, add-large, add-full, add-goes, delete-none, trim-none, messages-delete, messages-oldest, messages-add, delete-differs, trim-differs, add-differs}
 use Rattle.snapshot.specs.Command.{isSetUp}
 use Rattle.wallathi.specs.Demands.{PassesGroup, PassesStream}
 
 pub data Outcome (slots : ℕ) (s : Step) (m : Model) : Type 0 where
   stays : s .after ≡ m → Outcome slots s m
-  changes : isModel slots (s .after) ≡ true → (ledgerOf (s .after) ≡ ledgerOf m → ⊥) → Outcome slots s m
+  groups-change : (gs : List Group) → s .after ≡ regrouped m gs → isGroups (m .last) gs ≡ true → (gs ≡ m .groups → ⊥) → Outcome slots s m
+  nodes-change : isModel slots (s .after) ≡ true → (messagesOf (s .after .nodes) ≡ messagesOf (m .nodes) → ⊥) → Outcome slots s m
 
 -- the first message above an ID, of a ledger's
 record FirstAfter (i last : Id) (x : Message) : Type 0 where
@@ -81,10 +83,7 @@ module _ (slots : ℕ) (m : Model) (e : isModel slots m ≡ true) where
           let z : gs ≡ m .groups =
           some-is (sym (area-parse (m .last) gs g) ∙ ap (parseArea (m .last)) (same-true (areaBytes gs) (areaBytes (m .groups)) p) ∙ area-parse (m .last) (m .groups) (r .groups-are)) in
           stays (ap (regrouped m) z)
-      by false p =
-          let r = model-rules slots m e in
-          changes (model-of slots (m .nodes) (m .last) gs (r .last-fits) (model-keep slots m e) g)
-          (λ q. differ p (ap (λ (l : Ledger). l .groups) q))
+      by false p = groups-change gs refl g (differ p)
 
   -- an add
   adds : (c : Stream.Command) (x : Message) → Adds slots c m x → Outcome slots (step slots c m) m
@@ -97,7 +96,7 @@ module _ (slots : ℕ) (m : Model) (e : isModel slots m ≡ true) where
           let q = add-goes slots c m x a f l in
           unfold addMessage in
           after-step (step slots c m) _ q
-          (changes (model-add slots m e x (a .is-message) f (a .above) l) (λ z. add-differs _ m x (messages-add (m .nodes) x) z))
+          (nodes-change (model-add slots m e x (a .is-message) f (a .above) l) (add-differs (renoded m (addMessage (m .nodes) x) (x .id)) m x (messages-add (m .nodes) x)))
 
   add-outcome : (i : Id) (s : List ℕ) → Fits64 i → Bytes s → Outcome slots (step slots (Stream.add i s) m) m
   add-outcome i s f b = by (parseSlip s) refl
@@ -135,7 +134,7 @@ module _ (slots : ℕ) (m : Model) (e : isModel slots m ≡ true) where
       by (some x) f =
           after-step (step slots (Stream.delete i) m) _
           (step-goes slots (Stream.delete i) m (counted 1) (withMessages (ledgerOf m) (withoutMessage i (messagesOf (m .nodes)))) refl (rw f))
-          (changes (model-delete slots m e i) (λ z. delete-differs _ m i x (messages-delete least i (m .nodes) (model-rules slots m e .rising)) f z))
+          (nodes-change (model-delete slots m e i) (delete-differs (renoded m (deleteMessage i (m .nodes)) (m .last)) m i x (messages-delete least i (m .nodes) (model-rules slots m e .rising)) f))
 
   trims : (k : ℕ) → step slots (Stream.trim k) m
       ≡ stepOf (counted (length (messagesOf (m .nodes)) - k)) (renoded m (deleteOldest (length (messagesOf (m .nodes)) - k) (m .nodes)) (m .last))
@@ -156,7 +155,7 @@ module _ (slots : ℕ) (m : Model) (e : isModel slots m ≡ true) where
           let l : k < length (messagesOf (m .nodes)) = leb-false (length (messagesOf (m .nodes))) k h in
           let gone : ℕ = length (messagesOf (m .nodes)) - k in
           after-step (step slots (Stream.trim k) m) _ (trims k)
-          (changes (model-trim slots m e gone) (λ z. trim-differs (renoded m (deleteOldest gone (m .nodes)) (m .last)) m gone (messages-oldest gone (m .nodes)) (omega arith) (omega arith) z))
+          (nodes-change (model-trim slots m e gone) (λ z. trim-differs (renoded m (deleteOldest gone (m .nodes)) (m .last)) m gone (messages-oldest gone (m .nodes)) (omega arith) (omega arith) z))
 
   -- the groups made and destroyed
   groups-are : isGroups (m .last) (m .groups) ≡ true

@@ -7,6 +7,8 @@ pub mod Saves
 pub mod Loading
 pub mod OneConsumer
 pub mod Damaged
+pub mod NodeBytes
+pub mod AreaBytes
 pub mod Built
 pub mod Keeps
 pub mod Possible

@@ -5,19 +5,16 @@ use mathlib.Core.List.{List}
 use mathlib.Core.Option.{Option, some, none}
 use Prim.Native.Nat.{ℕ, _≤_}
 use native.Mathlib.Omega.{arith}
-use lib.Dec.{leb, eqb}
-use lib.ListN.{length}
-use Rattle.stream.specs.Ledger.{Ledger}
-use Rattle.stream.specs.Cut.{Model, ledgerOf, freshCut}
+use lib.Dec.{eqb}
+use Rattle.stream.specs.Cut.{Model, ledgerOf}
 use Rattle.stream.specs.Command as Stream
 use Rattle.stream.specs.Command.{Answer, refused, done, given, counted, written, entry, moved, nothing, absent, notMoved, codeOf}
 use Rattle.stream.specs.LedgerStep.{ledgerStep}
 use Rattle.stream.specs.Step.{step, besideOf}
 use Rattle.stream.specs.Promise.{Lent, heldBy, slotsOf, FollowsBy, SetsUpBy}
 use Rattle.stream.proofs.Laws.{model-rules, answer-step, ledger-step}
-use Rattle.snapshot.specs.Parse.{parseSnapshot}
-use Rattle.snapshot.specs.Command.{Command, onStream, save, load, isSetUp, turn}
-use Rattle.snapshot.specs.Promise.{Does, DoesStream, LoadsBy, LoadsLedger, LoadsFitting}
+use Rattle.snapshot.specs.Command.{Command, onStream, save, load, Loading, refusing, loading, loads, isSetUp, turn}
+use Rattle.snapshot.specs.Promise.{Does, DoesStream, LoadsBy}
 use Rattle.wallathi.specs.Export.{Seen, seen, tellTo}
 use Rattle.wallathi.specs.Run.{Call, commandOf, Meets}
 use Rattle.wallathi.specs.Demands.{Refuses}
@@ -55,17 +52,9 @@ module _ {T : Type 0} (tell : Answer → T) (code : T → ℕ) (same : (a : Answ
       let x : code t ≡ codeOf a = ap code (d .told-is) ∙ same (step slots c m .answer) ∙ ap codeOf (answer-step slots c m) in
       d .kept (ledger-step slots c m k ∙ ledger-stays (besideOf slots c m) (ledgerOf m) (model-rules slots m k .groups-are) c (omega arith))
 
-  fitting : (ledger : Ledger) (b : Bool) → LoadsFitting tell b ledger i t j → j ≡ i
-  fitting ledger true d = absurd (not-done (d .told-is))
-  fitting ledger false d = d .1
-
-  loads-ledger : (o : Option Ledger) → LoadsLedger tell o i t j → j ≡ i
-  loads-ledger none d = d .1
-  loads-ledger (some x) d = fitting x (leb (length (freshCut (x .messages))) (slotsOf i)) d
-
-  loads : (file : List ℕ) (b : Bool) → LoadsBy tell b file i t j → j ≡ i
-  loads file true d = d .1
-  loads file false d = loads-ledger (parseSnapshot file) d
+  loaded-by : (x : Loading) → LoadsBy tell x i t j → j ≡ i
+  loaded-by (refusing n) d = d .1
+  loaded-by (loading l) d = absurd (not-done (d .told-is))
 
   stream : (c : Stream.Command) (b : Bool) → DoesStream tell b c i t j → j ≡ i
   stream c true d = sets-up (eqb (slotsOf i) 0) d
@@ -74,15 +63,15 @@ module _ {T : Type 0} (tell : Answer → T) (code : T → ℕ) (same : (a : Answ
   kept-by : (c : Command) → Does tell c i t j → j ≡ i
   kept-by (onStream c) d = stream c (isSetUp c) d
   kept-by (save room) d = d .1
-  kept-by (load file) d = loads file (eqb (slotsOf i) 0) d
+  kept-by (load file) d = loaded-by (loads (slotsOf i) file) d
 
 pub refused-keeps : (c : Call) (i j : Lent) (s : Seen) → Meets c i s j → 1 ≤ s .code → Refuses c i s j
 refused-keeps c i j s d h =
     let tell : Answer → Seen = tellTo (c .values) (c .output) in
     let a : Answer = turn (slotsOf i) (commandOf c) (heldBy i) .answer in
-    let e : s ≡ tell a = does-turn tell i j s (commandOf c) d .told-is in
+    let e : s ≡ tell a = does-turn tell i j s (commandOf c) (d .does) .told-is in
     let x : s .code ≡ codeOf a = ap (λ (y : Seen). y .code) e in
     record {
       seen-is = e ∙ refusal-seen (c .values) (c .output) a (omega arith) ∙ ap (λ (n : ℕ). seen n (c .values) (c .output)) (sym x);
-      kept = kept-by tell (λ (y : Seen). y .code) (λ _. refl) i j s h (commandOf c) d;
+      kept = kept-by tell (λ (y : Seen). y .code) (λ _. refl) i j s h (commandOf c) (d .does);
     }

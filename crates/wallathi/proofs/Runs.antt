@@ -22,7 +22,7 @@ use Rattle.snapshot.specs.Command.{Command, stepOf, turn}
 use Rattle.snapshot.specs.Ledger.{ledgerTurn, besideTurn}
 use Rattle.snapshot.proofs.Laws.{turn-answer, turn-ledger, turn-alone}
 use Rattle.wallathi.specs.Export.{Seen, tellTo}
-use Rattle.wallathi.specs.Run.{Call, plain, commandOf, Meets, Made, made-none, made-more}
+use Rattle.wallathi.specs.Run.{Call, plain, commandOf, AreBytes, Meets, Made, made-none, made-more}
 use Rattle.wallathi.specs.Demands as demands
 use Rattle.wallathi.specs.Demands.{Kept, fresh, modelBy, plainCall, keptAfter, seenOf, AsLedger, OneAnswer}
 use Rattle.wallathi.proofs.Turns.{does-turn}
@@ -57,7 +57,7 @@ stepped {slots} {k} {i} {j} {s} c x h =
     let d : Command = commandOf c in
     let m : Model = modelBy k in
     let n : Model = stepOf slots d m .after in
-    let t = does-turn tell i j s d x in
+    let t = does-turn tell i j s d (x .does) in
     let e : isModel slots m ≡ true = ap (λ (n : ℕ). isModel n m) (sym (h .slots-are)) ∙ held-rules i m (h .holds) in
     let q : turn (slotsOf i) d (heldBy i) ≡ turn slots d (some m) = ap₂ (λ (n : ℕ) (o : Option Model). turn n d o) (h .slots-are) (h .holds) in
     let l : ledgerOf n ≡ ledgerTurn (besideTurn slots d m) d (k .ledger) .after =
@@ -103,7 +103,7 @@ record Begun (i j : Lent) : Type 0 where
 
 begun : (i j : Lent) (s : Seen) → Meets (plain setUp []) i s j → s .code ≡ 0 → Begun i j
 unfolding entriesOf liveIn
-begun i j s d e = by (eqb (slotsOf i) 0) d
+begun i j s d e = by (eqb (slotsOf i) 0) (d .does)
   where
     by : (b : Bool) → SetsUpBy (tellTo [] []) b i s j → Begun i j
     by true d = absurd (let z : 1 ≡ 0 = sym (ap (λ (x : Seen). x .code) (d .0)) ∙ e in omega arith)
@@ -114,17 +114,24 @@ begun i j s d e = by (eqb (slotsOf i) 0) d
           tail-kept = d .tail-kept;
         }
 
+-- what is left is bytes
+made-bytes : {cs : List Call} {i k : Lent} {ss : List Seen} → Made cs i ss k → AreBytes i → AreBytes k
+made-bytes made-none b = b
+made-bytes (made-more m r) b = made-bytes r (m .bytes)
+
 pub whole : {cs : List Call} {i k : Lent} {ss : List Seen} (i₀ : Lent) (s : Seen) → Meets (plain setUp []) i₀ s i → s .code ≡ 0 → Made cs i ss k → AsLedger i₀ cs ss k
 whole {cs} {i} {k} {ss} i₀ s d e m =
     let b = begun i₀ i s d e in
     let r = ran m (b .stands) in
     let x : Kept = run (plainCall (slotsOf i₀)) cs fresh in
+    let y = made-bytes m (d .bytes) in
     record {
       sees = r .sees;
       holds = r .stands .holds;
       ledger-is = ap (Option·map ledgerOf) (r .stands .holds) ∙ ap some (r .stands .ledger-is);
       rules = ap (λ (n : ℕ). isModel n (modelBy x)) (sym (r .stands .slots-are)) ∙ held-rules k (modelBy x) (r .stands .holds);
-      laid = λ p q. image-laid (k .store) (k .state) (modelBy x) p q (r .stands .holds);
+      bytes = y;
+      laid = image-laid (k .store) (k .state) (modelBy x) (y .store) (y .state) (r .stands .holds);
       size-kept = r .size-kept ∙ b .size-kept;
       tail-kept = r .tail-kept ∙ b .tail-kept;
     }
@@ -135,8 +142,8 @@ pub alone : {j l : Lent} {s t : Seen} (c : Call) (i k : Lent) (m n : Model) → 
 alone {j} {l} {s} {t} c i k m n p q e f z g =
     let tell : Answer → Seen = tellTo (c .values) (c .output) in
     let d : Command = commandOf c in
-    let a = does-turn tell i j s d p in
-    let b = does-turn tell k l t d q in
+    let a = does-turn tell i j s d (p .does) in
+    let b = does-turn tell k l t d (q .does) in
     let u : turn (slotsOf i) d (heldBy i) ≡ turn (slotsOf i) d (some m) = ap (turn (slotsOf i) d) e in
     let v : turn (slotsOf k) d (heldBy k) ≡ turn (slotsOf i) d (some n) = ap₂ (λ (x : ℕ) (o : Option Model). turn x d o) (sym z) f in
     by

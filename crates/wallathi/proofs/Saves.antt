@@ -40,7 +40,7 @@ save-seen len out l = by (leb (length (freshCut (l .messages))) 64) (leb (length
 module _ (i j : Lent) (s : Seen) (len : ℕ) (out : List ℕ) (d : Meets (call save (len ∷ []) out) i s j) where
   -- of an image
   pub saved : (l : Ledger) → ledgerBy i ≡ some l → (s ≡ saveSeen len out l) × (j ≡ i)
-  saved l e = (by (heldBy i) e (d .0), d .1)
+  saved l e = (by (heldBy i) e (d .does .0), d .does .1)
     where
       by : (h : Option Model) → Option·map ledgerOf h ≡ some l → s ≡ tellTo (len ∷ []) out (saveBy (length out) h) → s ≡ saveSeen len out l
       by none e q = absurd (let z : _≡_ {A = ℕ} 0 1 = cc in omega arith)
@@ -54,7 +54,7 @@ module _ (i j : Lent) (s : Seen) (len : ℕ) (out : List ℕ) (d : Meets (call s
 
   pub accepted : s .code ≡ 0 → Accepted
   unfolding saveReply
-  accepted e = by (heldBy i) refl (d .0)
+  accepted e = by (heldBy i) refl (d .does .0)
     where
       code-is : {t : Seen} → s ≡ t → t .code ≡ 0
       code-is q = sym (ap (λ (x : Seen). x .code) q) ∙ e

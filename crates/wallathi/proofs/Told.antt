@@ -5,11 +5,10 @@ use mathlib.Core.List.{List, [], _∷_}
 use mathlib.Core.Option.{Option, some, none}
 use Prim.Native.Nat.{ℕ, zero, suc}
 use native.Mathlib.Omega.{arith}
-use lib.Dec.{leb, eqb}
-use lib.ListN.{length, getD}
+use lib.Dec.{eqb}
+use lib.ListN.{getD}
 use Rattle.octets.specs.Place.{put}
-use Rattle.stream.specs.Ledger.{Ledger}
-use Rattle.stream.specs.Cut.{Model, emptyModel, ledgerOf, freshCut}
+use Rattle.stream.specs.Cut.{Model, emptyModel, ledgerOf}
 use Rattle.stream.specs.Command as Stream
 use Rattle.stream.specs.Command.{Answer, refused, done, given, counted, written, entry, moved, nothing, absent, notMoved, codeOf}
 use Rattle.stream.specs.Step.{step, besideOf}
@@ -17,17 +16,18 @@ use Rattle.stream.specs.Reply.{replyOf, outputBy, Told, told, tellIn}
 use Rattle.stream.specs.declared.Reply.{Reply}
 use Rattle.stream.specs.Promise.{Lent, heldBy, slotsOf, FollowsBy, Becomes, SetsUpBy}
 use Rattle.stream.proofs.Laws.{answer-step}
-use Rattle.snapshot.specs.Parse.{parseSnapshot}
-use Rattle.snapshot.specs.Command.{Command, onStream, save, load, saveReply, saveBy, loaded, isSetUp}
-use Rattle.snapshot.specs.Promise.{Does, DoesStream, LoadsBy, LoadsLedger, LoadsFitting}
-use Rattle.wallathi.specs.Export.{seen, numbersOf, over, tellTo, codeBy, numbersBy, Tells}
+use Rattle.snapshot.specs.Command as Snapshot
+use Rattle.snapshot.specs.Command.{Command, onStream, save, load, saveReply, saveBy, loaded, Loading, refusing, loading, isSetUp}
+use Rattle.snapshot.specs.Promise.{Does, DoesStream, LoadsBy}
+use Rattle.wallathi.specs.Export.{seen, numbersOf, over, tellTo}
+use Rattle.wallathi.specs.Telling.{codeBy, numbersBy, Tells}
 use Rattle.wallathi.proofs.Fits.{Fits, roomBy, roomOf, stream-fits, save-fits}
 
 -- a promise that tells t by f, told otherwise: u by g
 module _ {T U : Type 0} (f : Answer → T) (g : Answer → U) (i j : Lent) (t : T) (u : U) where
   module _ (room : ℕ) (k : (a : Answer) → Fits room a → t ≡ f a → u ≡ g a) where
     becomes : (m : Model) → Becomes f m i t j → Becomes g m i u j
-    becomes m d = record { told-is = k done tt (d .told-is); size-kept = d .size-kept; holds = d .holds; tail-kept = d .tail-kept }
+    becomes m d = record { told-is = k done tt (d .told-is); size-kept = d .size-kept; holds = d .holds; tail-kept = d .tail-kept; index-is = d .index-is }
 
     sets-up : (b : Bool) → SetsUpBy f b i t j → SetsUpBy g b i u j
     sets-up true d = (k (refused 1) tt (d .0), d .1)
@@ -37,17 +37,9 @@ module _ {T U : Type 0} (f : Answer → T) (g : Answer → U) (i j : Lent) (t : 
     saves none e = k (refused 2) tt e
     saves (some m) e = k (saveReply room (ledgerOf m)) (save-fits room (ledgerOf m)) e
 
-    loads-fitting : (b : Bool) (l : Ledger) → LoadsFitting f b l i t j → LoadsFitting g b l i u j
-    loads-fitting true l d = becomes (loaded l) d
-    loads-fitting false l d = (k (refused 17) tt (d .0), d .1)
-
-    loads-ledger : (o : Option Ledger) → LoadsLedger f o i t j → LoadsLedger g o i u j
-    loads-ledger none d = (k (refused 16) tt (d .0), d .1)
-    loads-ledger (some l) d = loads-fitting (leb (length (freshCut (l .messages))) (slotsOf i)) l d
-
-    loads-by : (b : Bool) (file : List ℕ) → LoadsBy f b file i t j → LoadsBy g b file i u j
-    loads-by true file d = (k (refused 1) tt (d .0), d .1)
-    loads-by false file d = loads-ledger (parseSnapshot file) d
+    loads : (x : Loading) → LoadsBy f x i t j → LoadsBy g x i u j
+    loads (refusing n) d = (k (refused n) tt (d .0), d .1)
+    loads (loading l) d = becomes (loaded l) d
 
   follows : (c : Stream.Command) → ((a : Answer) → Fits (roomBy c) a → t ≡ f a → u ≡ g a) → (o : Option Model) → FollowsBy f c o i t j → FollowsBy g c o i u j
   follows c k none d = (k (refused 2) tt (d .0), d .1)
@@ -55,7 +47,7 @@ module _ {T U : Type 0} (f : Answer → T) (g : Answer → U) (i j : Lent) (t : 
       let s = step (slotsOf i) c m in
       let h : Fits (roomBy c) (s .answer) =
       subst (Fits (roomBy c)) (sym (answer-step (slotsOf i) c m)) (stream-fits c (besideOf (slotsOf i) c m) (ledgerOf m)) in
-      record { told-is = k (s .answer) h (d .told-is); size-kept = d .size-kept; holds = d .holds; tail-kept = d .tail-kept; kept = d .kept }
+      record { told-is = k (s .answer) h (d .told-is); size-kept = d .size-kept; holds = d .holds; tail-kept = d .tail-kept; kept = d .kept; index-kept = d .index-kept; index-bytes = d .index-bytes }
 
   does-stream : (c : Stream.Command) → ((a : Answer) → Fits (roomBy c) a → t ≡ f a → u ≡ g a) → (b : Bool) → DoesStream f b c i t j → DoesStream g b c i u j
   does-stream c k true d = sets-up (roomBy c) k (eqb (slotsOf i) 0) d
@@ -64,7 +56,7 @@ module _ {T U : Type 0} (f : Answer → T) (g : Answer → U) (i j : Lent) (t : 
   pub retell : (c : Command) → ((a : Answer) → Fits (roomOf c) a → t ≡ f a → u ≡ g a) → Does f c i t j → Does g c i u j
   retell (onStream c) k d = does-stream c k (isSetUp c) d
   retell (save room) k d = (saves room k (heldBy i) (d .0), d .1)
-  retell (load file) k d = loads-by 0 k (eqb (slotsOf i) 0) file d
+  retell (load file) k d = loads 0 k (Snapshot.loads (slotsOf i) file) d
 
 -- a reply tells what its answer tells
 code-same : (a : Answer) → codeBy (replyOf a) ≡ codeOf a

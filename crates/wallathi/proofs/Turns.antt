@@ -5,20 +5,18 @@ use mathlib.Core.Bool.{Bool, true, false}
 use mathlib.Core.List.{List}
 use mathlib.Core.Option.{Option, some, none}
 use Prim.Native.Nat.{ℕ}
-use lib.Dec.{leb, eqb}
+use lib.Dec.{eqb}
 use lib.ListN.{length}
 use Rattle.octets.specs.Pick.{pick}
-use Rattle.stream.specs.Ledger.{Ledger}
-use Rattle.stream.specs.Cut.{Model, emptyModel, freshCut}
+use Rattle.stream.specs.Cut.{Model, emptyModel}
 use Rattle.stream.specs.Command as Stream
 use Rattle.stream.specs.Command.{Answer, refused, done}
 use Rattle.stream.specs.LedgerStep.{onSetUp}
 use Rattle.stream.specs.Step.{Step, step}
 use Rattle.stream.specs.Run.{Turn}
 use Rattle.stream.specs.Promise.{Lent, heldBy, slotsOf, tailOf, FollowsBy, Becomes, SetsUpBy}
-use Rattle.snapshot.specs.Parse.{parseSnapshot}
-use Rattle.snapshot.specs.Command.{Command, onStream, save, load, saveBy, loaded, refuses, loads, stepOf, isSetUp, heals, healed, turn}
-use Rattle.snapshot.specs.Promise.{LoadsBy, LoadsLedger, LoadsFitting, Does}
+use Rattle.snapshot.specs.Command.{Command, onStream, save, load, saveBy, loaded, refuses, Loading, refusing, loading, loads, loadsTo, stepOf, isSetUp, heals, healed, turn}
+use Rattle.snapshot.specs.Promise.{LoadsBy, Does}
 
 abbrev turned : Answer → Option Model → Turn Answer (Option Model)
 turned a h = record { answer = a; after = h }
@@ -43,25 +41,6 @@ set-up-none slots m e = rw e
 set-up-done : (slots : ℕ) (m : Model) → eqb slots 0 ≡ false → step slots Stream.setUp m ≡ stepped done emptyModel
 unfolding step onSetUp
 set-up-done slots m e = rw e
-
-module _ (slots : ℕ) (file : List ℕ) (m : Model) where
-  load-1 : eqb slots 0 ≡ true → loads slots file m ≡ refuses m 1
-  unfolding loads
-  load-1 e = rw e
-
-  load-16 : eqb slots 0 ≡ false → parseSnapshot file ≡ none → loads slots file m ≡ refuses m 16
-  unfolding loads
-  load-16 e p = rw (e, p)
-
-  load-17 : (l : Ledger) → eqb slots 0 ≡ false → parseSnapshot file ≡ some l → leb (length (freshCut (l .messages))) slots ≡ false
-      → loads slots file m ≡ refuses m 17
-  unfolding loads
-  load-17 l e p q = rw (e, p, q)
-
-  load-done : (l : Ledger) → eqb slots 0 ≡ false → parseSnapshot file ≡ some l → leb (length (freshCut (l .messages))) slots ≡ true
-      → loads slots file m ≡ stepped done (loaded l)
-  unfolding loads
-  load-done l e p q = rw (e, p, q)
 
 module _ {T : Type 0} (tell : Answer → T) (i j : Lent) (t : T) where
   pub record Turned (c : Command) : Type 0 where
@@ -115,23 +94,11 @@ module _ {T : Type 0} (tell : Answer → T) (i j : Lent) (t : T) where
   saves room none = refl
   saves room (some m) = refl
 
-  module _ (file : List ℕ) (e : eqb (slotsOf i) 0 ≡ false) where
-    loads-fitting : (l : Ledger) → parseSnapshot file ≡ some l → (b : Bool) → leb (length (freshCut (l .messages))) (slotsOf i) ≡ b
-        → LoadsFitting tell b l i t j → Turned (load file)
-    loads-fitting l p true q d =
-        becomes (load file) (loaded l) (heals-to (slotsOf i) (load file) refl (loaded l) (λ m. load-done (slotsOf i) file m l e p q) (heldBy i)) d
-    loads-fitting l p false q d =
-        still (load file) (refused 17) (heals-not (slotsOf i) (load file) refl 17 (λ m. load-17 (slotsOf i) file m l e p q) (heldBy i)) (d .0) (d .1)
-
-    loads-ledger : (o : Option Ledger) → parseSnapshot file ≡ o → LoadsLedger tell o i t j → Turned (load file)
-    loads-ledger none p d =
-        still (load file) (refused 16) (heals-not (slotsOf i) (load file) refl 16 (λ m. load-16 (slotsOf i) file m e p) (heldBy i)) (d .0) (d .1)
-    loads-ledger (some l) p d = loads-fitting l p (leb (length (freshCut (l .messages))) (slotsOf i)) refl d
-
-  loads-by : (file : List ℕ) (b : Bool) → eqb (slotsOf i) 0 ≡ b → LoadsBy tell b file i t j → Turned (load file)
-  loads-by file true e d =
-      still (load file) (refused 1) (heals-not (slotsOf i) (load file) refl 1 (λ m. load-1 (slotsOf i) file m e) (heldBy i)) (d .0) (d .1)
-  loads-by file false e d = loads-ledger file e (parseSnapshot file) refl d
+  loaded-by : (file : List ℕ) (x : Loading) → loads (slotsOf i) file ≡ x → LoadsBy tell x i t j → Turned (load file)
+  loaded-by file (refusing n) e d =
+      still (load file) (refused n) (heals-not (slotsOf i) (load file) refl n (λ m. ap (λ (x : Loading). loadsTo x m) e) (heldBy i)) (d .0) (d .1)
+  loaded-by file (loading l) e d =
+      becomes (load file) (loaded l) (heals-to (slotsOf i) (load file) refl (loaded l) (λ m. ap (λ (x : Loading). loadsTo x m) e) (heldBy i)) d
 
   pub does-turn : (c : Command) → Does tell c i t j → Turned c
   does-turn (onStream Stream.setUp) d = sets-up (eqb (slotsOf i) 0) refl d
@@ -144,4 +111,4 @@ module _ {T : Type 0} (tell : Answer → T) (i j : Lent) (t : T) where
   does-turn (onStream (Stream.asks q)) d = follows (Stream.asks q) refl (heldBy i) refl d
   does-turn (onStream (Stream.inGroup name c)) d = follows (Stream.inGroup name c) refl (heldBy i) refl d
   does-turn (save room) d = still (save room) (saveBy room (heldBy i)) (saves room (heldBy i)) (d .0) (d .1)
-  does-turn (load file) d = loads-by file (eqb (slotsOf i) 0) refl d
+  does-turn (load file) d = loaded-by file (loads (slotsOf i) file) refl d

@@ -26,7 +26,7 @@ use Rattle.snapshot.specs.Bytes.{snapshotOf}
 use Rattle.snapshot.specs.Command.{Command, onStream, save, load, loaded, heals, stepOf}
 use Rattle.snapshot.specs.Ledger.{ledgerTurn, besideTurn}
 use Rattle.wallathi.specs.Export.{Seen, seen, tellTo}
-use Rattle.wallathi.specs.Run.{Call, call, plain, commandOf, Meets, Made}
+use Rattle.wallathi.specs.Run.{Call, call, plain, commandOf, AreBytes, Meets, Made}
 
 -- the plain ledger with the cut beside it
 pub record Kept : Type 0 where
@@ -68,13 +68,14 @@ abbrev pub ledgerBy : Lent → Option Ledger
 ledgerBy i = Option·map ledgerOf (heldBy i)
 
 -- demands 2 and 3: every list of calls cs on the store i₀ once it is set up answers as the plain ledger does with its cut beside it, and
--- the store k after it holds ledger and cut; its bytes are the published encoding; bytes past the last slot are never touched
+-- the store k after it holds ledger and cut; it is laid out by the published encoding; bytes past the last slot are never touched
 pub record AsLedger (i₀ : Lent) (cs : List Call) (ss : List Seen) (k : Lent) : Type 0 where
   pub sees : ss ≡ seenOf (slotsOf i₀) cs
   pub holds : heldBy k ≡ some (modelBy (keptAfter (slotsOf i₀) cs))
   pub ledger-is : ledgerBy k ≡ some (keptAfter (slotsOf i₀) cs .ledger)
   pub rules : isModel (slotsOf i₀) (modelBy (keptAfter (slotsOf i₀) cs)) ≡ true
-  pub laid : Bytes (k .store) → Bytes (k .state) → Laid (k .store) (k .state) (modelBy (keptAfter (slotsOf i₀) cs))
+  pub bytes : AreBytes k
+  pub laid : Laid (k .store) (k .state) (modelBy (keptAfter (slotsOf i₀) cs))
   pub size-kept : length (k .store) ≡ length (i₀ .store)
   pub tail-kept : tailOf k ≡ tailOf i₀
 
@@ -96,6 +97,13 @@ saveSeen len out l =
 -- the file that an accepted save wrote: so many bytes of the output
 abbrev pub fileIn : Seen → List ℕ
 fileIn s = take (getD (s .values) 0 0) (s .output)
+
+-- what is seen of the call after these
+pub record SeenAt (cs : List Call) (x : Seen) (ss : List Seen) : Type 0 where
+  pub first : List Seen
+  pub later : List Seen
+  pub seen-are : ss ≡ first ++ (x ∷ later)
+  pub as-many : length first ≡ length cs
 
 -- the file is the snapshot of this ledger, whose nodes, freshly cut, fit the store of at least 4,096 bytes
 pub record Fits (file : List ℕ) (i : Lent) (l : Ledger) : Type 0 where
@@ -172,6 +180,7 @@ pub record SomeRun (cs : List Call) (i : Lent) : Type 0 where
   pub seen : List Seen
   pub after : Lent
   pub made : Made cs i seen after
+  pub bytes : AreBytes after
 
 -- on a store that was set up, whatever it held before
 pub record FreshRun (cs : List Call) (i₀ : Lent) : Type 0 where
@@ -180,13 +189,6 @@ pub record FreshRun (cs : List Call) (i₀ : Lent) : Type 0 where
   pub sets-up : Meets (plain setUp []) i₀ told begun
   pub code-is : told .code ≡ 0
   pub run-on : SomeRun cs begun
-
--- what is seen of the call after these
-pub record SeenAt (cs : List Call) (x : Seen) (ss : List Seen) : Type 0 where
-  pub first : List Seen
-  pub later : List Seen
-  pub seen-are : ss ≡ first ++ (x ∷ later)
-  pub as-many : length first ≡ length cs
 
 -- the claim: what was ordered (00), word for word, and that it is not said of nothing
 pub record Demands : Type 0 where
@@ -232,5 +234,5 @@ pub record Demands : Type 0 where
   pub damaged : (cs : List Call) (i k : Lent) (ss : List Seen) → Made cs i ss k → heldBy i ≡ none → NoneHeals cs → (ss ≡ twos cs) × (k ≡ i)
   -- none of this is said of nothing: whatever a store of at least 4,096 bytes held, there is such a list of promises kept, from set up on,
   -- for every list of calls with arguments that C can pass; and so there is from any bytes
-  pub fresh-run : (cs : List Call) (i₀ : Lent) → 4096 ≤ length (i₀ .store) → AllPass cs → FreshRun cs i₀
-  pub some-run : (cs : List Call) (i : Lent) → AllPass cs → SomeRun cs i
+  pub fresh-run : (cs : List Call) (i₀ : Lent) → AreBytes i₀ → 4096 ≤ length (i₀ .store) → AllPass cs → FreshRun cs i₀
+  pub some-run : (cs : List Call) (i : Lent) → AreBytes i → AllPass cs → SomeRun cs i

@@ -1,13 +1,10 @@
 -- What a C host gets of an answer: the number returned, the out-parameters and the output after the call. Assumes nothing.
-use mathlib.Core.Path.{_≡_}
 use mathlib.Core.Bool.{Bool, true, false}
 use mathlib.Core.List.{List, [], _∷_}
 use Prim.Native.Nat.{ℕ}
 use lib.ListN.{length}
 use Rattle.stream.specs.Command.{Answer, refused, done, given, counted, written, entry, moved, nothing, absent, notMoved, codeOf}
 use Rattle.stream.specs.Reply.{outputBy}
-use Rattle.stream.specs.declared.Reply.{Reply}
-use Rattle.stream.specs.declared.Reply.the-variants as reply
 
 pub record Seen : Type 0 where
   pub code : ℕ
@@ -43,33 +40,3 @@ over (n ∷ ns) (o ∷ olds) = n ∷ over ns olds
 -- with these out-parameters and this output before
 abbrev pub tellTo : List ℕ → List ℕ → Answer → Seen
 tellTo values output a = seen (codeOf a) (over (numbersOf a) values) (outputBy output a)
-
--- the same of the engine's reply
-abbrev pub codeBy : Reply → ℕ
-codeBy (reply.Refused n) = n
-codeBy reply.Done = 0
-codeBy (reply.Given i) = 0
-codeBy (reply.Counted n) = 0
-codeBy (reply.Written n) = 0
-codeBy (reply.Entry i time count lives) = 0
-codeBy reply.Moved = 0
-codeBy reply.Nothing = 32
-codeBy reply.Absent = 33
-codeBy reply.NotMoved = 34
-
-abbrev pub numbersBy : Reply → List ℕ
-numbersBy (reply.Refused n) = []
-numbersBy reply.Done = []
-numbersBy (reply.Given i) = i .ms ∷ (i .seq ∷ [])
-numbersBy (reply.Counted n) = n ∷ []
-numbersBy (reply.Written n) = n ∷ []
-numbersBy (reply.Entry i time count lives) = i .ms ∷ (i .seq ∷ (time ∷ (count ∷ (bit lives ∷ []))))
-numbersBy reply.Moved = []
-numbersBy reply.Nothing = []
-numbersBy reply.Absent = []
-numbersBy reply.NotMoved = []
-
--- a reply as it is told: the number returned, and the out-parameters that held `olds`
-pub record Tells (r : Reply) (olds : List ℕ) (code : ℕ) (values : List ℕ) : Type 0 where
-  pub code-is : code ≡ codeBy r
-  pub values-are : values ≡ over (numbersBy r) olds

@@ -3,3 +3,5 @@
 pub mod Export
 pub mod Run
 pub mod Demands
+-- What the functions inside promise.
+pub mod Telling

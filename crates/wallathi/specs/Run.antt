@@ -4,6 +4,7 @@
 use mathlib.Core.List.{List, [], _∷_}
 use Prim.Native.Nat.{ℕ}
 use lib.ListN.{length}
+use Rattle.octets.specs.Bytes.{Bytes}
 use Rattle.stream.specs.Command as Stream
 use Rattle.stream.specs.Promise.{Lent}
 use Rattle.snapshot.specs.Command.{Command, onStream}
@@ -25,9 +26,15 @@ plain c values = call (λ _. onStream c) values []
 abbrev pub commandOf : Call → Command
 commandOf c = c .command (length (c .output))
 
+-- store and state are bytes
+pub record AreBytes (i : Lent) : Type 0 where
+  pub store : Bytes (i .store)
+  pub state : Bytes (i .state)
+
 -- one call that keeps its function's promise: entered with i, seen s, left with j
-abbrev pub Meets : Call → Lent → Seen → Lent → Type 0
-Meets c i s j = Does (tellTo (c .values) (c .output)) (commandOf c) i s j
+pub record Meets (c : Call) (i : Lent) (s : Seen) (j : Lent) : Type 0 where
+  pub does : Does (tellTo (c .values) (c .output)) (commandOf c) i s j
+  pub bytes : AreBytes j
 
 -- a list of calls, each keeping its promise: store and state i became k
 pub data Made : List Call → Lent → List Seen → Lent → Type 0 where

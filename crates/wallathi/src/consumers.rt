@@ -6,33 +6,41 @@ ghost use Rattle.stream.specs.Command.{createGroup, destroyGroup, inGroup, grou
 ghost use Rattle.stream.specs.Promise.{lent};
 ghost use Rattle.wallathi.specs.Export.{seen};
 ghost use Rattle.wallathi.specs.Run.{plain, Meets};
+use crate::known::known;
 use crate::telling;
 use id::Id;
+use state::State;
 
 #[no_mangle]
 pub extern "C" fn wallathi_create_group(
     store: &[u8],
-    state: &mut [u8; 64434],
+    state: &mut State,
     name: &[u8],
     start_ms: u64,
     start_seq: u64,
 ) -> u32
     ensures { λ r. ⌜ Meets (plain (createGroup (now (name .entry)) (idOf «start_ms» «start_seq»)) []) (lent (now (store .entry)) (now (state .entry))) (seen r [] []) (lent (now (store .entry)) (now (state .exit))) ⌝ }
 {
-    telling::tell(stream_groups::create_group(store, state, name, Id::new(start_ms, start_seq)))
+    let r = stream_groups::create_group(store, state, name, Id::new(start_ms, start_seq));
+    known(store);
+    known(state);
+    telling::tell(r)
 }
 
 #[no_mangle]
-pub extern "C" fn wallathi_destroy_group(store: &[u8], state: &mut [u8; 64434], name: &[u8]) -> u32
+pub extern "C" fn wallathi_destroy_group(store: &[u8], state: &mut State, name: &[u8]) -> u32
     ensures { λ r. ⌜ Meets (plain (destroyGroup (now (name .entry))) []) (lent (now (store .entry)) (now (state .entry))) (seen r [] []) (lent (now (store .entry)) (now (state .exit))) ⌝ }
 {
-    telling::tell(stream_groups::destroy_group(store, state, name))
+    let r = stream_groups::destroy_group(store, state, name);
+    known(store);
+    known(state);
+    telling::tell(r)
 }
 
 #[no_mangle]
 pub extern "C" fn wallathi_group_read(
     store: &[u8],
-    state: &mut [u8; 64434],
+    state: &mut State,
     group: &[u8],
     consumer: &[u8],
     time: u64,
@@ -41,17 +49,16 @@ pub extern "C" fn wallathi_group_read(
 ) -> u32
     ensures { λ r. ⌜ Meets (plain (inGroup (now (group .entry)) (groupRead (now (consumer .entry)) time)) (now («id_ms» .entry) ∷ (now («id_seq» .entry) ∷ []))) (lent (now (store .entry)) (now (state .entry))) (seen r (now («id_ms» .exit) ∷ (now («id_seq» .exit) ∷ [])) []) (lent (now (store .entry)) (now (state .exit))) ⌝ }
 {
-    telling::tell_id(
-        stream_group_read::group_read(store, state, group, consumer, time),
-        id_ms,
-        id_seq,
-    )
+    let r = stream_group_read::group_read(store, state, group, consumer, time);
+    known(store);
+    known(state);
+    telling::tell_id(r, id_ms, id_seq)
 }
 
 #[no_mangle]
 pub extern "C" fn wallathi_acknowledge(
     store: &[u8],
-    state: &mut [u8; 64434],
+    state: &mut State,
     group: &[u8],
     ms: u64,
     seq: u64,
@@ -59,16 +66,16 @@ pub extern "C" fn wallathi_acknowledge(
 ) -> u32
     ensures { λ r. ⌜ Meets (plain (inGroup (now (group .entry)) (acknowledge (idOf ms seq))) (now (count .entry) ∷ [])) (lent (now (store .entry)) (now (state .entry))) (seen r (now (count .exit) ∷ []) []) (lent (now (store .entry)) (now (state .exit))) ⌝ }
 {
-    telling::tell_number(
-        stream_pending::acknowledge(store, state, group, Id::new(ms, seq)),
-        count,
-    )
+    let r = stream_pending::acknowledge(store, state, group, Id::new(ms, seq));
+    known(store);
+    known(state);
+    telling::tell_number(r, count)
 }
 
 #[no_mangle]
 pub extern "C" fn wallathi_claim(
     store: &[u8],
-    state: &mut [u8; 64434],
+    state: &mut State,
     group: &[u8],
     consumer: &[u8],
     least_idle: u64,
@@ -78,21 +85,17 @@ pub extern "C" fn wallathi_claim(
 ) -> u32
     ensures { λ r. ⌜ Meets (plain (inGroup (now (group .entry)) (claim (now (consumer .entry)) «least_idle» (idOf ms seq) time)) []) (lent (now (store .entry)) (now (state .entry))) (seen r [] []) (lent (now (store .entry)) (now (state .exit))) ⌝ }
 {
-    telling::tell(stream_pending::claim(
-        store,
-        state,
-        group,
-        consumer,
-        least_idle,
-        Id::new(ms, seq),
-        time,
-    ))
+    let id = Id::new(ms, seq);
+    let r = stream_pending::claim(store, state, group, consumer, least_idle, id, time);
+    known(store);
+    known(state);
+    telling::tell(r)
 }
 
 #[no_mangle]
 pub extern "C" fn wallathi_next_pending(
     store: &[u8],
-    state: &[u8; 64434],
+    state: &State,
     group: &[u8],
     consumer: &[u8],
     after_ms: u64,
@@ -105,34 +108,30 @@ pub extern "C" fn wallathi_next_pending(
 ) -> u32
     ensures { λ r. ⌜ Meets (plain (inGroup (now (group .entry)) (nextPending (now (consumer .entry)) (idOf «after_ms» «after_seq»))) (now («id_ms» .entry) ∷ (now («id_seq» .entry) ∷ (now (time .entry) ∷ (now (count .entry) ∷ (now (lives .entry) ∷ [])))))) (lent (now (store .entry)) (now (state .entry))) (seen r (now («id_ms» .exit) ∷ (now («id_seq» .exit) ∷ (now (time .exit) ∷ (now (count .exit) ∷ (now (lives .exit) ∷ []))))) []) (lent (now (store .entry)) (now (state .entry))) ⌝ }
 {
-    telling::tell_entry(
-        stream_group_read::next_pending(
-            store,
-            state,
-            group,
-            consumer,
-            Id::new(after_ms, after_seq),
-        ),
-        id_ms,
-        id_seq,
-        time,
-        count,
-        lives,
-    )
+    let r = stream_group_read::next_pending(
+        store,
+        state,
+        group,
+        consumer,
+        Id::new(after_ms, after_seq),
+    );
+    known(store);
+    known(state);
+    telling::tell_entry(r, id_ms, id_seq, time, count, lives)
 }
 
 #[no_mangle]
 pub extern "C" fn wallathi_drop_consumer(
     store: &[u8],
-    state: &mut [u8; 64434],
+    state: &mut State,
     group: &[u8],
     consumer: &[u8],
     count: &mut u64,
 ) -> u32
     ensures { λ r. ⌜ Meets (plain (inGroup (now (group .entry)) (dropConsumer (now (consumer .entry)))) (now (count .entry) ∷ [])) (lent (now (store .entry)) (now (state .entry))) (seen r (now (count .exit) ∷ []) []) (lent (now (store .entry)) (now (state .exit))) ⌝ }
 {
-    telling::tell_number(
-        stream_pending::drop_consumer(store, state, group, consumer),
-        count,
-    )
+    let r = stream_pending::drop_consumer(store, state, group, consumer);
+    known(store);
+    known(state);
+    telling::tell_number(r, count)
 }

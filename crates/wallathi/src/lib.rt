@@ -2,6 +2,7 @@
 // said in specs/Run, `Meets`; what a host gets of an answer in specs/Export. What holds of whole lists of calls: proofs/Demands.
 
 mod consumers;
+mod known;
 mod messages;
 mod reading;
 mod snapshots;

@@ -8,28 +8,34 @@ ghost use Rattle.stream.specs.Promise.{lent};
 ghost use Rattle.wallathi.specs.Export.{seen};
 ghost use Rattle.wallathi.specs.Run.{plain, Meets};
 ghost use Rattle.state.specs.Layout.{stateSize};
+use crate::known::known;
 use crate::telling;
 use id::Id;
+use state::STATE_BYTES;
+use state::State;
 
 // How many bytes a state has.
 #[no_mangle]
 pub extern "C" fn wallathi_state_bytes() -> u64
     ensures { λ r. ⌜ r ≡ stateSize ⌝ }
 {
-    64434
+    STATE_BYTES as u64
 }
 
 #[no_mangle]
-pub extern "C" fn wallathi_set_up(store: &mut [u8], state: &mut [u8; 64434]) -> u32
+pub extern "C" fn wallathi_set_up(store: &mut [u8], state: &mut State) -> u32
     ensures { λ r. ⌜ Meets (plain (setUp) []) (lent (now (store .entry)) (now (state .entry))) (seen r [] []) (lent (now (store .exit)) (now (state .exit))) ⌝ }
 {
-    telling::tell(stream_add::set_up(store, state))
+    let r = stream_add::set_up(store, state);
+    known(store);
+    known(state);
+    telling::tell(r)
 }
 
 #[no_mangle]
 pub extern "C" fn wallathi_add(
     store: &mut [u8],
-    state: &mut [u8; 64434],
+    state: &mut State,
     ms: u64,
     seq: u64,
     slip: &[u8],
@@ -38,17 +44,16 @@ pub extern "C" fn wallathi_add(
 ) -> u32
     ensures { λ r. ⌜ Meets (plain (add (idOf ms seq) (now (slip .entry))) (now («id_ms» .entry) ∷ (now («id_seq» .entry) ∷ []))) (lent (now (store .entry)) (now (state .entry))) (seen r (now («id_ms» .exit) ∷ (now («id_seq» .exit) ∷ [])) []) (lent (now (store .exit)) (now (state .exit))) ⌝ }
 {
-    telling::tell_id(
-        stream_add::add(store, state, Id::new(ms, seq), slip),
-        id_ms,
-        id_seq,
-    )
+    let r = stream_add::add(store, state, Id::new(ms, seq), slip);
+    known(store);
+    known(state);
+    telling::tell_id(r, id_ms, id_seq)
 }
 
 #[no_mangle]
 pub extern "C" fn wallathi_add_by_clock(
     store: &mut [u8],
-    state: &mut [u8; 64434],
+    state: &mut State,
     time: u64,
     slip: &[u8],
     id_ms: &mut u64,
@@ -56,34 +61,34 @@ pub extern "C" fn wallathi_add_by_clock(
 ) -> u32
     ensures { λ r. ⌜ Meets (plain (addByClock time (now (slip .entry))) (now («id_ms» .entry) ∷ (now («id_seq» .entry) ∷ []))) (lent (now (store .entry)) (now (state .entry))) (seen r (now («id_ms» .exit) ∷ (now («id_seq» .exit) ∷ [])) []) (lent (now (store .exit)) (now (state .exit))) ⌝ }
 {
-    telling::tell_id(
-        stream_add::add_by_clock(store, state, time, slip),
-        id_ms,
-        id_seq,
-    )
+    let r = stream_add::add_by_clock(store, state, time, slip);
+    known(store);
+    known(state);
+    telling::tell_id(r, id_ms, id_seq)
 }
 
 #[no_mangle]
 pub extern "C" fn wallathi_delete(
     store: &mut [u8],
-    state: &mut [u8; 64434],
+    state: &mut State,
     ms: u64,
     seq: u64,
     count: &mut u64,
 ) -> u32
     ensures { λ r. ⌜ Meets (plain (delete (idOf ms seq)) (now (count .entry) ∷ [])) (lent (now (store .entry)) (now (state .entry))) (seen r (now (count .exit) ∷ []) []) (lent (now (store .exit)) (now (state .exit))) ⌝ }
 {
-    telling::tell_number(stream_delete::delete(store, state, Id::new(ms, seq)), count)
+    let r = stream_delete::delete(store, state, Id::new(ms, seq));
+    known(store);
+    known(state);
+    telling::tell_number(r, count)
 }
 
 #[no_mangle]
-pub extern "C" fn wallathi_trim(
-    store: &mut [u8],
-    state: &mut [u8; 64434],
-    k: u64,
-    count: &mut u64,
-) -> u32
+pub extern "C" fn wallathi_trim(store: &mut [u8], state: &mut State, k: u64, count: &mut u64) -> u32
     ensures { λ r. ⌜ Meets (plain (trim k) (now (count .entry) ∷ [])) (lent (now (store .entry)) (now (state .entry))) (seen r (now (count .exit) ∷ []) []) (lent (now (store .exit)) (now (state .exit))) ⌝ }
 {
-    telling::tell_number(stream_delete::trim(store, state, k), count)
+    let r = stream_delete::trim(store, state, k);
+    known(store);
+    known(state);
+    telling::tell_number(r, count)
 }

@@ -7,13 +7,15 @@ ghost use Rattle.stream.specs.Promise.{lent};
 ghost use Rattle.wallathi.specs.Export.{seen};
 ghost use Rattle.wallathi.specs.Run.{call, plain, Meets};
 ghost use Rattle.snapshot.specs.Command.{onStream};
+use crate::known::known;
 use crate::telling;
 use id::Id;
+use state::State;
 
 #[no_mangle]
 pub extern "C" fn wallathi_next(
     store: &[u8],
-    state: &[u8; 64434],
+    state: &State,
     ms: u64,
     seq: u64,
     id_ms: &mut u64,
@@ -21,17 +23,16 @@ pub extern "C" fn wallathi_next(
 ) -> u32
     ensures { λ r. ⌜ Meets (plain (asks (next (idOf ms seq))) (now («id_ms» .entry) ∷ (now («id_seq» .entry) ∷ []))) (lent (now (store .entry)) (now (state .entry))) (seen r (now («id_ms» .exit) ∷ (now («id_seq» .exit) ∷ [])) []) (lent (now (store .entry)) (now (state .entry))) ⌝ }
 {
-    telling::tell_id(
-        stream_read::next(store, state, Id::new(ms, seq)),
-        id_ms,
-        id_seq,
-    )
+    let r = stream_read::next(store, state, Id::new(ms, seq));
+    known(store);
+    known(state);
+    telling::tell_id(r, id_ms, id_seq)
 }
 
 #[no_mangle]
 pub extern "C" fn wallathi_read(
     store: &[u8],
-    state: &[u8; 64434],
+    state: &State,
     ms: u64,
     seq: u64,
     out: &mut [u8],
@@ -39,13 +40,16 @@ pub extern "C" fn wallathi_read(
 ) -> u32
     ensures { λ r. ⌜ Meets (call (λ n. onStream (asks (read (idOf ms seq) n))) (now (len .entry) ∷ []) (now (out .entry))) (lent (now (store .entry)) (now (state .entry))) (seen r (now (len .exit) ∷ []) (now (out .exit))) (lent (now (store .entry)) (now (state .entry))) ⌝ }
 {
-    telling::tell_number(stream_read::read(store, state, Id::new(ms, seq), out), len)
+    let r = stream_read::read(store, state, Id::new(ms, seq), out);
+    known(store);
+    known(state);
+    telling::tell_number(r, len)
 }
 
 #[no_mangle]
 pub extern "C" fn wallathi_field(
     store: &[u8],
-    state: &[u8; 64434],
+    state: &State,
     ms: u64,
     seq: u64,
     name: &[u8],
@@ -54,8 +58,8 @@ pub extern "C" fn wallathi_field(
 ) -> u32
     ensures { λ r. ⌜ Meets (call (λ n. onStream (asks (field (idOf ms seq) (now (name .entry)) n))) (now (len .entry) ∷ []) (now (out .entry))) (lent (now (store .entry)) (now (state .entry))) (seen r (now (len .exit) ∷ []) (now (out .exit))) (lent (now (store .entry)) (now (state .entry))) ⌝ }
 {
-    telling::tell_number(
-        stream_read::field(store, state, Id::new(ms, seq), name, out),
-        len,
-    )
+    let r = stream_read::field(store, state, Id::new(ms, seq), name, out);
+    known(store);
+    known(state);
+    telling::tell_number(r, len)
 }

@@ -3,7 +3,8 @@
 ghost use mathlib.Core.Path.{_≡_};
 ghost use mathlib.Core.List.{[], _∷_};
 ghost use lib.ListN.{getD};
-ghost use Rattle.wallathi.specs.Export.{bit, codeBy, numbersBy, Tells};
+ghost use Rattle.wallathi.specs.Export.{bit};
+ghost use Rattle.wallathi.specs.Telling.{codeBy, numbersBy, Tells};
 use id::Id;
 use stream::Reply;
 

@@ -17,7 +17,12 @@ wallathi-acknowledge-spec =
     (λ c κs. search needs)
     (λ c κs. search needs)
     (λ c κs. search needs)
+    (λ c κs. search needs)
+    (λ c κs. search needs)
     (λ c.
-    let x = c .before .before .before .before .before .before .before .args in
-    let d = c .before .before .acknowledge in
-    exported (lent (x .store .now) (x .state .now)) (lent (x .store .now) (d .last .1 .0)) (onStream (Stream.inGroup (x .group .now) (Stream.acknowledge (idOf (x .ms) (x .seq))))) refl (ap (λ (i : Id). onStream (Stream.inGroup (x .group .now) (Stream.acknowledge i))) (c .before .before .before .new .ensures)) (d .ensures) (c .tell-number .ensures)))
+    let x = c .before .before .before .before .before .before .before .before .before .before .before .args in
+    let d = c .before .before .before .before .before .before .acknowledge in
+    record {
+      does = exported (lent (x .store .now) (x .state .now)) (lent (x .store .now) (d .last .1 .0)) (onStream (Stream.inGroup (x .group .now) (Stream.acknowledge (idOf (x .ms) (x .seq))))) refl (ap (λ (i : Id). onStream (Stream.inGroup (x .group .now) (Stream.acknowledge i))) (c .before .before .before .before .before .before .before .new .ensures)) (d .ensures) (c .tell-number .ensures);
+      bytes = record { store = c .before .before .before .before .before .known .ensures; state = c .before .before .known2 .ensures };
+    }))

@@ -17,7 +17,12 @@ wallathi-claim-spec =
     (λ c κs. search needs)
     (λ c κs. search needs)
     (λ c κs. search needs)
+    (λ c κs. search needs)
+    (λ c κs. search needs)
     (λ c.
-    let x = c .before .before .before .before .before .before .before .args in
-    let d = c .before .claim in
-    exported (lent (x .store .now) (x .state .now)) (lent (x .store .now) (d .last .1 .0)) (onStream (Stream.inGroup (x .group .now) (Stream.claim (x .consumer .now) (x .least-idle) (idOf (x .ms) (x .seq)) (x .time)))) refl (ap (λ (i : Id). onStream (Stream.inGroup (x .group .now) (Stream.claim (x .consumer .now) (x .least-idle) i (x .time)))) (c .before .before .new .ensures)) (d .ensures) (c .tell .ensures)))
+    let x = c .before .before .before .before .before .before .before .before .before .before .before .args in
+    let d = c .before .before .before .before .before .claim in
+    record {
+      does = exported (lent (x .store .now) (x .state .now)) (lent (x .store .now) (d .last .1 .0)) (onStream (Stream.inGroup (x .group .now) (Stream.claim (x .consumer .now) (x .least-idle) (idOf (x .ms) (x .seq)) (x .time)))) refl (ap (λ (i : Id). onStream (Stream.inGroup (x .group .now) (Stream.claim (x .consumer .now) (x .least-idle) i (x .time)))) (c .before .before .before .before .before .before .before .new .ensures)) (d .ensures) (c .tell .ensures);
+      bytes = record { store = c .before .before .before .before .known .ensures; state = c .before .known2 .ensures };
+    }))

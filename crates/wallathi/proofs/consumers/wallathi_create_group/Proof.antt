@@ -17,7 +17,12 @@ wallathi-create-group-spec =
     (λ c κs. search needs)
     (λ c κs. search needs)
     (λ c κs. search needs)
+    (λ c κs. search needs)
+    (λ c κs. search needs)
     (λ c.
-    let x = c .before .before .before .before .before .before .args in
-    let d = c .before .create-group in
-    exported (lent (x .store .now) (x .state .now)) (lent (x .store .now) (d .last .1 .0)) (onStream (Stream.createGroup (x .name .now) (idOf (x .start-ms) (x .start-seq)))) refl (ap (λ (i : Id). onStream (Stream.createGroup (x .name .now) i)) (c .before .before .new .ensures)) (d .ensures) (c .tell .ensures)))
+    let x = c .before .before .before .before .before .before .before .before .before .before .args in
+    let d = c .before .before .before .before .before .create-group in
+    record {
+      does = exported (lent (x .store .now) (x .state .now)) (lent (x .store .now) (d .last .1 .0)) (onStream (Stream.createGroup (x .name .now) (idOf (x .start-ms) (x .start-seq)))) refl (ap (λ (i : Id). onStream (Stream.createGroup (x .name .now) i)) (c .before .before .before .before .before .before .new .ensures)) (d .ensures) (c .tell .ensures);
+      bytes = record { store = c .before .before .before .before .known .ensures; state = c .before .known2 .ensures };
+    }))

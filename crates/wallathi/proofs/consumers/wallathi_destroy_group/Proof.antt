@@ -14,7 +14,12 @@ wallathi-destroy-group-spec =
     (tie.spec
     (λ c κs. search needs)
     (λ c κs. search needs)
+    (λ c κs. search needs)
+    (λ c κs. search needs)
     (λ c.
-    let x = c .before .before .before .before .before .args in
-    let d = c .before .destroy-group in
-    exported (lent (x .store .now) (x .state .now)) (lent (x .store .now) (d .last .1 .0)) (onStream (Stream.destroyGroup (x .name .now))) refl refl (d .ensures) (c .tell .ensures)))
+    let x = c .before .before .before .before .before .before .before .before .before .args in
+    let d = c .before .before .before .before .before .destroy-group in
+    record {
+      does = exported (lent (x .store .now) (x .state .now)) (lent (x .store .now) (d .last .1 .0)) (onStream (Stream.destroyGroup (x .name .now))) refl refl (d .ensures) (c .tell .ensures);
+      bytes = record { store = c .before .before .before .before .known .ensures; state = c .before .known2 .ensures };
+    }))

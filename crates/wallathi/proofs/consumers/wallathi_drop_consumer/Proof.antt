@@ -14,7 +14,12 @@ wallathi-drop-consumer-spec =
     (tie.spec
     (λ c κs. search needs)
     (λ c κs. search needs)
+    (λ c κs. search needs)
+    (λ c κs. search needs)
     (λ c.
-    let x = c .before .before .before .before .before .before .before .args in
-    let d = c .before .before .drop-consumer in
-    exported (lent (x .store .now) (x .state .now)) (lent (x .store .now) (d .last .1 .0)) (onStream (Stream.inGroup (x .group .now) (Stream.dropConsumer (x .consumer .now)))) refl refl (d .ensures) (c .tell-number .ensures)))
+    let x = c .before .before .before .before .before .before .before .before .before .before .before .args in
+    let d = c .before .before .before .before .before .before .drop-consumer in
+    record {
+      does = exported (lent (x .store .now) (x .state .now)) (lent (x .store .now) (d .last .1 .0)) (onStream (Stream.inGroup (x .group .now) (Stream.dropConsumer (x .consumer .now)))) refl refl (d .ensures) (c .tell-number .ensures);
+      bytes = record { store = c .before .before .before .before .before .known .ensures; state = c .before .before .known2 .ensures };
+    }))

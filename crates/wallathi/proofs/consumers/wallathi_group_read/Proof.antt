@@ -14,7 +14,12 @@ wallathi-group-read-spec =
     (tie.spec
     (λ c κs. search needs)
     (λ c κs. search needs)
+    (λ c κs. search needs)
+    (λ c κs. search needs)
     (λ c.
-    let x = c .before .before .before .before .before .before .before .before .args in
-    let d = c .before .before .before .group-read in
-    exported (lent (x .store .now) (x .state .now)) (lent (x .store .now) (d .last .1 .0)) (onStream (Stream.inGroup (x .group .now) (Stream.groupRead (x .consumer .now) (x .time)))) refl refl (d .ensures) (c .tell-id .ensures)))
+    let x = c .before .before .before .before .before .before .before .before .before .before .before .before .args in
+    let d = c .before .before .before .before .before .before .before .group-read in
+    record {
+      does = exported (lent (x .store .now) (x .state .now)) (lent (x .store .now) (d .last .1 .0)) (onStream (Stream.inGroup (x .group .now) (Stream.groupRead (x .consumer .now) (x .time)))) refl refl (d .ensures) (c .tell-id .ensures);
+      bytes = record { store = c .before .before .before .before .before .before .known .ensures; state = c .before .before .before .known2 .ensures };
+    }))

@@ -17,7 +17,12 @@ wallathi-next-pending-spec =
     (λ c κs. search needs)
     (λ c κs. search needs)
     (λ c κs. search needs)
+    (λ c κs. search needs)
+    (λ c κs. search needs)
     (λ c.
-    let x = c .before .before .before .before .before .before .before .before .before .before .before .before .args in
-    let d = c .before .before .before .before .before .before .next-pending in
-    exported (lent (x .store .now) (x .state .now)) (lent (x .store .now) (x .state .now)) (onStream (Stream.inGroup (x .group .now) (Stream.nextPending (x .consumer .now) (idOf (x .after-ms) (x .after-seq))))) refl (ap (λ (i : Id). onStream (Stream.inGroup (x .group .now) (Stream.nextPending (x .consumer .now) i))) (c .before .before .before .before .before .before .before .new .ensures)) (d .ensures) (c .tell-entry .ensures)))
+    let x = c .before .before .before .before .before .before .before .before .before .before .before .before .before .before .before .args in
+    let d = c .before .before .before .before .before .before .before .before .before .next-pending in
+    record {
+      does = exported (lent (x .store .now) (x .state .now)) (lent (x .store .now) (x .state .now)) (onStream (Stream.inGroup (x .group .now) (Stream.nextPending (x .consumer .now) (idOf (x .after-ms) (x .after-seq))))) refl (ap (λ (i : Id). onStream (Stream.inGroup (x .group .now) (Stream.nextPending (x .consumer .now) i))) (c .before .before .before .before .before .before .before .before .before .before .new .ensures)) (d .ensures) (c .tell-entry .ensures);
+      bytes = record { store = c .before .before .before .before .before .before .before .before .known .ensures; state = c .before .before .before .before .before .before .known2 .ensures };
+    }))

@@ -17,8 +17,13 @@ wallathi-add-spec =
     (λ c κs. search needs)
     (λ c κs. search needs)
     (λ c κs. search needs)
+    (λ c κs. search needs)
+    (λ c κs. search needs)
     (λ c. search needs)
     (λ c.
-    let x = c .before .before .before .before .before .before .before .before .before .before .before .args in
-    let d = c .before .before .before .before .before .add in
-    exported (lent (x .store .now) (x .state .now)) (lent (d .last .0) (d .last .1 .0)) (onStream (Stream.add (idOf (x .ms) (x .seq)) (x .slip .now))) refl (ap (λ (i : Id). onStream (Stream.add i (x .slip .now))) (c .before .before .before .before .before .before .new .ensures)) (d .ensures) (c .tell-id .ensures)))
+    let x = c .before .before .before .before .before .before .before .before .before .before .before .before .before .before .before .before .args in
+    let d = c .before .before .before .before .before .before .before .before .before .before .add in
+    record {
+      does = exported (lent (x .store .now) (x .state .now)) (lent (d .last .0) (d .last .1 .0)) (onStream (Stream.add (idOf (x .ms) (x .seq)) (x .slip .now))) refl (ap (λ (i : Id). onStream (Stream.add i (x .slip .now))) (c .before .before .before .before .before .before .before .before .before .before .before .new .ensures)) (d .ensures) (c .tell-id .ensures);
+      bytes = record { store = c .before .before .before .before .before .before .known .ensures; state = c .before .before .before .known2 .ensures };
+    }))

@@ -17,8 +17,13 @@ wallathi-delete-spec =
     (λ c κs. search needs)
     (λ c κs. search needs)
     (λ c κs. search needs)
+    (λ c κs. search needs)
+    (λ c κs. search needs)
     (λ c. search needs)
     (λ c.
-    let x = c .before .before .before .before .before .before .before .before .before .args in
-    let d = c .before .before .before .before .delete in
-    exported (lent (x .store .now) (x .state .now)) (lent (d .last .0) (d .last .1 .0)) (onStream (Stream.delete (idOf (x .ms) (x .seq)))) refl (ap (λ (i : Id). onStream (Stream.delete i)) (c .before .before .before .before .before .new .ensures)) (d .ensures) (c .tell-number .ensures)))
+    let x = c .before .before .before .before .before .before .before .before .before .before .before .before .before .before .args in
+    let d = c .before .before .before .before .before .before .before .before .before .delete in
+    record {
+      does = exported (lent (x .store .now) (x .state .now)) (lent (d .last .0) (d .last .1 .0)) (onStream (Stream.delete (idOf (x .ms) (x .seq)))) refl (ap (λ (i : Id). onStream (Stream.delete i)) (c .before .before .before .before .before .before .before .before .before .before .new .ensures)) (d .ensures) (c .tell-number .ensures);
+      bytes = record { store = c .before .before .before .before .before .known .ensures; state = c .before .before .known2 .ensures };
+    }))

@@ -14,8 +14,13 @@ wallathi-set-up-spec =
     (tie.spec
     (λ c κs. search needs)
     (λ c κs. search needs)
+    (λ c κs. search needs)
+    (λ c κs. search needs)
     (λ c. search needs)
     (λ c.
-    let x = c .before .before .before .before .before .before .before .args in
-    let d = c .before .before .before .set-up in
-    exported (lent (x .store .now) (x .state .now)) (lent (d .last .0) (d .last .1 .0)) (onStream (Stream.setUp)) refl refl (d .ensures) (c .tell .ensures)))
+    let x = c .before .before .before .before .before .before .before .before .before .before .before .before .args in
+    let d = c .before .before .before .before .before .before .before .before .set-up in
+    record {
+      does = exported (lent (x .store .now) (x .state .now)) (lent (d .last .0) (d .last .1 .0)) (onStream (Stream.setUp)) refl refl (d .ensures) (c .tell .ensures);
+      bytes = record { store = c .before .before .before .before .known .ensures; state = c .before .known2 .ensures };
+    }))

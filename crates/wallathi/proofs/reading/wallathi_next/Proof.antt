@@ -17,7 +17,12 @@ wallathi-next-spec =
     (λ c κs. search needs)
     (λ c κs. search needs)
     (λ c κs. search needs)
+    (λ c κs. search needs)
+    (λ c κs. search needs)
     (λ c.
-    let x = c .before .before .before .before .before .before .before .args in
-    let d = c .before .before .before .next in
-    exported (lent (x .store .now) (x .state .now)) (lent (x .store .now) (x .state .now)) (onStream (Stream.asks (Stream.next (idOf (x .ms) (x .seq))))) refl (ap (λ (i : Id). onStream (Stream.asks (Stream.next i))) (c .before .before .before .before .new .ensures)) (d .ensures) (c .tell-id .ensures)))
+    let x = c .before .before .before .before .before .before .before .before .before .before .args in
+    let d = c .before .before .before .before .before .before .next in
+    record {
+      does = exported (lent (x .store .now) (x .state .now)) (lent (x .store .now) (x .state .now)) (onStream (Stream.asks (Stream.next (idOf (x .ms) (x .seq))))) refl (ap (λ (i : Id). onStream (Stream.asks (Stream.next i))) (c .before .before .before .before .before .before .before .new .ensures)) (d .ensures) (c .tell-id .ensures);
+      bytes = record { store = c .before .before .before .before .before .known .ensures; state = c .before .before .before .known2 .ensures };
+    }))

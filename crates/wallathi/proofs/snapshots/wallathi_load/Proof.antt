@@ -13,8 +13,13 @@ wallathi-load-spec =
     (tie.spec
     (λ c κs. search needs)
     (λ c κs. search needs)
+    (λ c κs. search needs)
+    (λ c κs. search needs)
     (λ c. search needs)
     (λ c.
-    let x = c .before .before .before .before .before .before .before .before .args in
-    let d = c .before .before .before .load in
-    exported (lent (x .store .now) (x .state .now)) (lent (d .last .0) (d .last .1 .0)) (load (x .file .now)) refl refl (d .ensures) (c .tell .ensures)))
+    let x = c .before .before .before .before .before .before .before .before .before .before .before .before .before .args in
+    let d = c .before .before .before .before .before .before .before .before .load in
+    record {
+      does = exported (lent (x .store .now) (x .state .now)) (lent (d .last .0) (d .last .1 .0)) (load (x .file .now)) refl refl (d .ensures) (c .tell .ensures);
+      bytes = record { store = c .before .before .before .before .known .ensures; state = c .before .known2 .ensures };
+    }))

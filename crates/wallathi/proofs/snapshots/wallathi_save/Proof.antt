@@ -14,8 +14,13 @@ wallathi-save-spec =
     (tie.spec
     (λ c κs. search needs)
     (λ c κs. search needs)
+    (λ c κs. search needs)
+    (λ c κs. search needs)
     (λ c. search needs)
     (λ c.
-    let x = c .before .before .before .before .before .before .before .before .before .args in
-    let d = c .before .before .before .before .save in
-    exported-out (lent (x .store .now) (x .state .now)) (lent (x .store .now) (x .state .now)) (save (length (x .out .now))) (x .out .now) (d .last .1 .1 .0) refl (d .ensures, refl) (c .tell-number .ensures)))
+    let x = c .before .before .before .before .before .before .before .before .before .before .before .before .args in
+    let d = c .before .before .before .before .before .before .before .save in
+    record {
+      does = exported-out (lent (x .store .now) (x .state .now)) (lent (x .store .now) (x .state .now)) (save (length (x .out .now))) (x .out .now) (d .last .1 .1 .0) refl (d .ensures, refl) (c .tell-number .ensures);
+      bytes = record { store = c .before .before .before .before .known .ensures; state = c .before .before .known2 .ensures };
+    }))

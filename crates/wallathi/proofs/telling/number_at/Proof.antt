@@ -3,7 +3,7 @@ use mathlib.Core.Path.{sym, ap, _∙_}
 use lib.ListN.{getD}
 use borrow.Author.Needs.{needs}
 use Rattle.stream.specs.declared.Reply.{Reply}
-use Rattle.wallathi.specs.Export.{numbersBy}
+use Rattle.wallathi.specs.Telling.{numbersBy}
 use Rattle.wallathi.proofs.Told.{past-one}
 use Rattle.wallathi.proofs.telling.number_at.Statement.{statement}
 use Rattle.wallathi.proofs.telling.number_at.Tie as tie

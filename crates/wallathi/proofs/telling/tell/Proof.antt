@@ -1,6 +1,6 @@
 -- `tell` meets its contract. Assumes nothing.
 use borrow.Author.Needs.{needs}
-use Rattle.wallathi.specs.Export.{numbersBy}
+use Rattle.wallathi.specs.Telling.{numbersBy}
 use Rattle.wallathi.proofs.Told.{no-numbers}
 use Rattle.wallathi.proofs.telling.tell.Statement.{statement}
 use Rattle.wallathi.proofs.telling.tell.Tie as tie

@@ -1,6 +1,6 @@
 -- `tell_entry` meets its contract. Assumes nothing.
 use borrow.Author.Needs.{needs}
-use Rattle.wallathi.specs.Export.{numbersBy}
+use Rattle.wallathi.specs.Telling.{numbersBy}
 use Rattle.wallathi.proofs.Told.{five-numbers}
 use Rattle.wallathi.proofs.telling.tell_entry.Statement.{statement}
 use Rattle.wallathi.proofs.telling.tell_entry.Tie as tie

@@ -1,6 +1,6 @@
 -- `tell_id` meets its contract. Assumes nothing.
 use borrow.Author.Needs.{needs}
-use Rattle.wallathi.specs.Export.{numbersBy}
+use Rattle.wallathi.specs.Telling.{numbersBy}
 use Rattle.wallathi.proofs.Told.{two-numbers}
 use Rattle.wallathi.proofs.telling.tell_id.Statement.{statement}
 use Rattle.wallathi.proofs.telling.tell_id.Tie as tie

@@ -1,6 +1,6 @@
 -- `tell_number` meets its contract. Assumes nothing.
 use borrow.Author.Needs.{needs}
-use Rattle.wallathi.specs.Export.{numbersBy}
+use Rattle.wallathi.specs.Telling.{numbersBy}
 use Rattle.wallathi.proofs.Told.{one-number}
 use Rattle.wallathi.proofs.telling.tell_number.Statement.{statement}
 use Rattle.wallathi.proofs.telling.tell_number.Tie as tie
