@@ -5,12 +5,13 @@ use std::env;
 use std::path::PathBuf;
 use std::process::Command;
 
-const WALK: [&str; 8] = [
+const WALK: [&str; 9] = [
     "node::strict::entry_at",
     "node::strict::head_at",
     "node::strict::body_at",
     "node::strict::strings_at",
     "node::strict::number_at",
+    "listpack::strict::read_number",
     "listpack::strict::strings_end",
     "listpack::strict::string_size",
     "listpack::strict::short_text_size",
