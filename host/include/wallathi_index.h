@@ -13,8 +13,9 @@
  * Records that hold the same keys and values may differ in their bytes, as the nodes of the tree may stand at any places: compare what
  * two records hold, not their bytes.
  *
- * What a call costs: every call validates the whole record, and a put or a remove that changes something builds it anew. With 64 names
- * of 15 bytes a find takes some 80,000 instructions, a put 140,000. A call needs 80 KB of stack (58 to 74 KB were measured).
+ * What a call costs: every call validates the whole record, and a put or a remove that changes something builds it anew. With 63 names
+ * of 15 bytes a find takes some 14,400 instructions, a put 78,000. A put and a remove need 48 KB of stack (35 KB were measured), every
+ * other call 4 KB (2.3 KB).
  *
  * Each function answers one of the numbers below. If several refusals apply, the lowest is answered. Unless the answer is
  * WALLATHI_INDEX_OK, no byte is changed: not of the record, not of the output, not of an out-parameter.

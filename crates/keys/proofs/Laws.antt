@@ -21,5 +21,7 @@ pub use Rattle.keys.proofs.Members.{keys-insert, keys-without, insert-l
 pub use Rattle.keys.proofs.Ids.{before-ids, rising-ids, first-ids, last-ids, ids-long, ids-bytes}
 -- a key's place among the rows of a table
 pub use Rattle.keys.proofs.Positions.{rank-held, rank-most}
-pub use Rattle.keys.proofs.Rows.{length-rows, row-added, rows-first, rows-none, rows-take, rows-drop, rows-get, rows-same}
+pub use Rattle.keys.proofs.Rows.{length-rows, rows-first, rows-none, rows-take, rows-drop, rows-get, rows-same}
 pub use Rattle.keys.proofs.Placing.{is-held, no-room, room-held, room-new, room-full, held-rows, new-rows, held-map, new-map, gone-rows}
+-- tables without a byte past their rows
+pub use Rattle.keys.proofs.Tables.{Exact, exact-none, exact-written, rows-written, exact-table}

@@ -10,6 +10,7 @@ pub mod Nearest
 pub mod Kept
 pub mod Answers
 pub mod Rows
+pub mod Tables
 pub mod Placing
 pub mod Members
 pub mod Ids

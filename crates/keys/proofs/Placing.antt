@@ -13,9 +13,9 @@ use Rattle.octets.specs.Pick.{both}
 use Rattle.octets.specs.Maybe.{isNone}
 use Rattle.octets.specs.Place.{area}
 use Rattle.octets.specs.Compare.{same}
-use Rattle.keys.specs.Entries.{Entry, entry, isKey, isMap, rising, mostKeys, lookup, has, insert, without}
+use Rattle.keys.specs.Entries.{Entry, entry, isKey, isMap, rising, mostKeys, lookup, has, insert, without, lengthOf}
 use Rattle.keys.specs.Rank.{rank}
-use Rattle.keys.specs.Table.{lengthOf, Columns, rowAt, rowsFrom}
+use Rattle.keys.specs.Table.{Columns, rowAt, rowsFrom}
 use Rattle.keys.proofs.Fits.{map-rising}
 use Rattle.keys.proofs.Maps.{has-none, has-some}
 use Rattle.keys.proofs.Positions.{insert-new, insert-held, without-held, has-row, has-end}

@@ -9,11 +9,11 @@ use native.Mathlib.Omega.{arith}
 use lib.ListN.{length, getD, set, take, drop}
 use lib.Seq.{getD-set-same, getD-set-other}
 use Rattle.octets.specs.Place.{area, put}
-use Rattle.octets.proofs.Laws.{area-before, area-put-part, area-all, area-area, length-area}
-use Rattle.keys.specs.Entries.{Entry, entry}
+use Rattle.octets.proofs.Laws.{area-before, area-put-at}
+use Rattle.keys.specs.Entries.{Entry, entry, lengthOf}
 use Rattle.octets.specs.Compare.{comesBefore}
 use Rattle.keys.specs.Rank.{rank}
-use Rattle.keys.specs.Table.{lengthOf, Columns, columns, rowAt, rowsFrom}
+use Rattle.keys.specs.Table.{Columns, columns, rowAt, rowsFrom}
 use Rattle.keys.proofs.Positions.{rank-before, rank-not}
 
 pub length-rows : (t : Columns) (i n : ℕ) → length (rowsFrom t i n) ≡ n
@@ -34,20 +34,19 @@ rows-last t i (suc n) =
     let e : i + 1 + n ≡ i + suc n = omega arith in
     ap (λ (es : List Entry). rowAt t i ∷ es) (rows-last t (i + 1) n ∙ ap (λ (j : ℕ). rowsFrom t (i + 1) n ++ (rowAt t j ∷ [])) e)
 
--- a row written after the others; its bytes may go on after the key
-module _ (len val key : List ℕ) (n d v : ℕ) (bs : List ℕ) (a : length len ≡ 64) (b : length val ≡ 64) (c : length key ≡ 1024) (m : n < 64) (h : length bs ≤ 16) where
+-- a row written after the others
+module _ (len val key : List ℕ) (n d v : ℕ) (bs : List ℕ) (a : length len ≡ 64) (b : length val ≡ 64) (c : length key ≡ 1024) (m : n < 64) (e : length bs ≡ d) (h : d ≤ 16) where
   new : Columns
   new = columns (set len n d) (set val n v) (put key (16 * n) bs)
 
-  new-row : min d 16 ≤ length bs → rowAt new n ≡ entry (area 0 (min d 16) bs) v
+  new-row : rowAt new n ≡ entry bs v
   unfolding new
-  new-row k =
+  new-row =
       let i : n < length len = omega arith in
       let j : n < length val = omega arith in
+      let k : min d 16 ≡ length bs = omega arith in
       ap₂ entry
-      (ap (λ (w : ℕ). area (16 * n) (min w 16) (put key (16 * n) bs)) (getD-set-same len n d 0 i)
-      ∙ ap (λ (w : ℕ). area w (min d 16) (put key (16 * n) bs)) (sym (add-zero (16 * n)))
-      ∙ area-put-part key (16 * n) bs (omega arith) 0 (min d 16) (omega arith))
+      (ap (λ (w : ℕ). area (16 * n) (min w 16) (put key (16 * n) bs)) (getD-set-same len n d 0 i) ∙ area-put-at key (16 * n) bs (omega arith) (min d 16) (sym k))
       (getD-set-same val n v 0 j)
 
   old-row : (j : ℕ) → j < n → rowAt new j ≡ rowAt (columns len val key) j
@@ -58,20 +57,12 @@ module _ (len val key : List ℕ) (n d v : ℕ) (bs : List ℕ) (a : length len 
       (ap (λ (w : ℕ). area (16 * j) (min w 16) (put key (16 * n) bs)) (getD-set-other len n j d 0 z) ∙ area-before key (16 * n) bs (omega arith) (16 * j) (lengthOf len j) (omega arith))
       (getD-set-other val n j v 0 z)
 
-  pub row-put : min d 16 ≤ length bs
-      → rowsFrom (columns (set len n d) (set val n v) (put key (16 * n) bs)) 0 (suc n) ≡ rowsFrom (columns len val key) 0 n ++ (entry (area 0 (min d 16) bs) v ∷ [])
+  pub row-added : rowsFrom (columns (set len n d) (set val n v) (put key (16 * n) bs)) 0 (suc n) ≡ rowsFrom (columns len val key) 0 n ++ (entry bs v ∷ [])
   unfolding new
-  row-put k =
+  row-added =
       rows-last new 0 n
       ∙ ap₂ (λ (es : List Entry) (r : Entry). es ++ (r ∷ [])) (rows-same new (columns len val key) 0 n (λ j k. old-row j (omega arith)))
-      (ap (rowAt new) (zero-add n) ∙ new-row k)
-
--- its bytes are the key
-pub row-added : (len val key : List ℕ) (n d v : ℕ) (bs : List ℕ) → length len ≡ 64 → length val ≡ 64 → length key ≡ 1024 → n < 64 → length bs ≡ d → d ≤ 16
-    → rowsFrom (columns (set len n d) (set val n v) (put key (16 * n) bs)) 0 (suc n) ≡ rowsFrom (columns len val key) 0 n ++ (entry bs v ∷ [])
-row-added len val key n d v bs a b c m e h =
-    let k : min d 16 ≡ length bs = omega arith in
-    row-put len val key n d v bs a b c m (omega arith) (omega arith) ∙ ap (λ (l : List ℕ). rowsFrom (columns len val key) 0 n ++ (entry l v ∷ [])) (ap (λ (w : ℕ). area 0 w bs) k ∙ area-all bs)
+      (ap (rowAt new) (zero-add n) ∙ new-row)
 
 -- the first row, and the others
 pub rows-first : (t : Columns) (i b : ℕ) → i < b → rowsFrom t i (b - i) ≡ rowAt t i ∷ rowsFrom t (i + 1) (b - (i + 1))
@@ -104,19 +95,8 @@ rows-get t zero i (suc n) d h = rw add-zero
 rows-get t (suc c) i zero d h = absurd (omega arith)
 rows-get t (suc c) i (suc n) d h = let e : i + 1 + c ≡ i + suc c = omega arith in rows-get t c (i + 1) n d (omega arith) ∙ ap (rowAt t) e
 
--- one row copied: its 16 bytes, whatever its length
+-- one row copied
 module _ (t : Columns) (i : ℕ) where
-  pub row-copied : (len val key : List ℕ) (n : ℕ) → length len ≡ 64 → length val ≡ 64 → length key ≡ 1024 → n < 64 → length (t .key) ≡ 1024 → i < 64
-      → rowsFrom (columns (set len n (getD (t .len) i 0)) (set val n (getD (t .val) i 0)) (put key (16 * n) (area (16 * i) 16 (t .key)))) 0 (n + 1)
-      ≡ rowsFrom (columns len val key) 0 n ++ (rowAt t i ∷ [])
-  row-copied len val key n a b c m l h =
-      let e = length-area (16 * i) 16 (t .key) (omega arith) in
-      let d = lengthOf (t .len) i in
-      ap (rowsFrom _ 0) (add-one n)
-      ∙ row-put len val key n (getD (t .len) i 0) (getD (t .val) i 0) (area (16 * i) 16 (t .key)) a b c m (omega arith) (omega arith)
-      ∙ ap (λ (k : List ℕ). rowsFrom (columns len val key) 0 n ++ (entry k (getD (t .val) i 0) ∷ []))
-      (area-area (16 * i) 16 (t .key) 0 d (omega arith) ∙ ap (λ (at : ℕ). area at d (t .key)) (add-zero (16 * i)))
-
   pub copied : (b : ℕ) (xs ys zs : List Entry) → i < b → ys ≡ xs ++ (rowAt t i ∷ []) → xs ++ rowsFrom t i (b - i) ≡ zs → ys ++ rowsFrom t (i + 1) (b - (i + 1)) ≡ zs
   copied b xs ys zs h e f =
       let r = rowsFrom t (i + 1) (b - (i + 1)) in

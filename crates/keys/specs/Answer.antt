@@ -1,10 +1,11 @@
 -- What the answers of the code say, in the terms of Operation, and their numbers (01, Refusal numbers). Assumes nothing.
-use mathlib.Core.List.{List, _++_}
-use Prim.Native.Nat.{ℕ, _-_}
+use mathlib.Core.List.{List}
+use Prim.Native.Nat.{ℕ}
 use lib.ListN.{take, length}
 use Rattle.octets.specs.Bytes.{zeros}
 use Rattle.keys.specs.Entries.{Entry, entry}
 use Rattle.keys.specs.Operation.{Reply, refused, done, removed, value, found, nothing, codeOf}
+use Rattle.keys.specs.Table.{filled}
 use Rattle.keys.specs.declared.Answer.{Answer}
 use Rattle.keys.specs.declared.Answer.the-variants.{Done, Removed, Held, Absent, Refused}
 use Rattle.keys.specs.declared.Outcome.{Outcome}
@@ -39,7 +40,7 @@ neighbourReply n = outcomeReply (n .outcome) (entry (take (n .len) (n .key)) (n 
 
 -- zeros after a key, to 16 bytes
 abbrev pub padded : List ℕ → List ℕ
-padded k = k ++ zeros (16 - length k)
+padded k = filled 16 k
 
 -- a neighbour, its key of len bytes with zeros after it
 abbrev pub neighbourAs : Outcome → ℕ → ℕ → List ℕ → Neighbour

@@ -3,9 +3,9 @@
 use mathlib.Core.Bool.{Bool, true}
 use mathlib.Core.List.{List, [], _∷_}
 use mathlib.Core.Option.{Option, some, none}
-use Prim.Native.Nat.{ℕ, _^_}
+use Prim.Native.Nat.{ℕ, _^_, min}
 use lib.Dec.{leb, ltb}
-use lib.ListN.{length}
+use lib.ListN.{length, getD}
 use Rattle.octets.specs.Pick.{pick, both}
 use Rattle.octets.specs.Maybe.{isNone, orElse}
 use Rattle.octets.specs.Compare.{comesBefore, same}
@@ -23,6 +23,10 @@ mostKeys = 64
 
 abbrev pub isKey : List ℕ → Bool
 isKey k = both (leb 1 (length k)) (leb (length k) 16)
+
+-- of lengths kept in a list the one at p, as no key or part of one has more than 16 bytes
+abbrev pub lengthOf : List ℕ → ℕ → ℕ
+lengthOf len p = min (getD len p 0) 16
 
 -- every key is above k
 unfoldable pub allAbove : List ℕ → List Entry → Bool

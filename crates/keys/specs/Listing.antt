@@ -5,7 +5,7 @@ use mathlib.Core.List.{List, []}
 use mathlib.Core.Option.{Option, some, none}
 use Prim.Native.Nat.{_≤_}
 use Rattle.keys.specs.Entries.{Entry}
-use Rattle.keys.specs.Table.{tabled}
+use Rattle.keys.specs.Table.{tabled, tableOf}
 use Rattle.keys.specs.declared.Listed.{Listed}
 
 -- a test that leaves something behind
@@ -27,6 +27,7 @@ pub record Lists (o : Option (List Entry)) (r : Listed) : Type 0 where
   pub listed : listedOf r ≡ o
   pub rows : tabled (r .table) ≡ entriesOr o
   pub most : r .table .n ≤ 64
+  pub exact : r .table ≡ tableOf (entriesOr o)
 
 -- an index that holds entries
 abbrev pub IsSound : Option (List Entry) → Type 0

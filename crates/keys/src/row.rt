@@ -8,8 +8,8 @@ ghost use lib.ListN.{length, take, drop};
 ghost use Rattle.octets.specs.Pick.{both};
 ghost use Rattle.octets.specs.Place.{area};
 ghost use Rattle.octets.specs.Compare.{same};
-ghost use Rattle.keys.specs.Entries.{entry, isKey};
-ghost use Rattle.keys.specs.Table.{lengthOf, columns, rowsFrom, tabled};
+ghost use Rattle.keys.specs.Entries.{entry, isKey, lengthOf};
+ghost use Rattle.keys.specs.Table.{columns, rowsFrom, tabled, tableOf, appended};
 ghost use Rattle.keys.specs.Rank.{rank};
 use crate::Table;
 
@@ -36,7 +36,7 @@ pub fn row_len(len: &[u8; 64], i: usize) -> usize
 }
 
 pub fn no_rows() -> Table
-    ensures { λ r. ⌜ (tabled r ≡ []) × (r .n ≡ 0) ⌝ }
+    ensures { λ r. ⌜ (tabled r ≡ []) × (r .n ≡ 0) × (r ≡ tableOf []) ⌝ }
 {
     Table {
         n: 0,
@@ -49,7 +49,7 @@ pub fn no_rows() -> Table
 // One row more, at the end.
 pub fn append(t: Table, k: &[u8], v: u32) -> Table
     requires { ⌜ (t .n < 64) × (length (now k) ≤ 16) ⌝ }
-    ensures { λ r. ⌜ (tabled r ≡ tabled t ++ (entry (now (k .entry)) v ∷ [])) × (r .n ≡ t .n + 1) ⌝ }
+    ensures { λ r. ⌜ (tabled r ≡ tabled t ++ (entry (now (k .entry)) v ∷ [])) × (r .n ≡ t .n + 1) × (r ≡ appended t (now (k .entry)) v) ⌝ }
 {
     let n = t.n;
     let mut len = t.len;
@@ -66,10 +66,10 @@ pub fn append(t: Table, k: &[u8], v: u32) -> Table
     }
 }
 
-// The rows from a on, and before b, added to those of another table.
+// The rows from a on, and before b, added to those of a table that has nothing past its rows.
 fn copy_rows(from: Table, a: usize, b: usize, to: Table) -> Table
-    requires { ⌜ (a ≤ b) × ((b ≤ 64) × (to .n + (b - a) ≤ 64)) ⌝ }
-    ensures { λ r. ⌜ (tabled r ≡ tabled to ++ rowsFrom (columns (from .len) (from .val) (from .key)) a (b - a)) × (r .n ≡ to .n + (b - a)) ⌝ }
+    requires { ⌜ (a ≤ b) × ((b ≤ 64) × ((to .n + (b - a) ≤ 64) × (to ≡ tableOf (tabled to)))) ⌝ }
+    ensures { λ r. ⌜ (tabled r ≡ tabled to ++ rowsFrom (columns (from .len) (from .val) (from .key)) a (b - a)) × (r .n ≡ to .n + (b - a)) × (r ≡ tableOf (tabled r)) ⌝ }
 {
     let lens = from.len;
     let vals = from.val;
@@ -80,10 +80,11 @@ fn copy_rows(from: Table, a: usize, b: usize, to: Table) -> Table
     let mut key = to.key;
     let mut i = a;
     while i < b {
-        len[n] = lens[i];
-        val[n] = vals[i];
         let at = 16 * i;
-        octets::copy_in(&mut key, 16 * n, &keys[at..at + 16]);
+        let m = row_len(&lens, i);
+        len[n] = m as u8;
+        val[n] = vals[i];
+        octets::copy_in(&mut key, 16 * n, &keys[at..at + m]);
         n += 1;
         i += 1;
     }
@@ -128,7 +129,7 @@ pub fn is_row(t: Table, i: usize, k: &[u8]) -> bool
 // The first r rows, a new one, and those from s on.
 pub fn with_row(t: Table, r: usize, s: usize, k: &[u8], v: u32) -> Table
     requires { ⌜ (r ≤ s) × ((s ≤ t .n) × ((t .n ≤ 64) × ((r + 1 + (t .n - s) ≤ 64) × (length (now k) ≤ 16)))) ⌝ }
-    ensures { λ y. ⌜ tabled y ≡ take r (tabled t) ++ (entry (now (k .entry)) v ∷ drop s (tabled t)) ⌝ }
+    ensures { λ y. ⌜ (tabled y ≡ take r (tabled t) ++ (entry (now (k .entry)) v ∷ drop s (tabled t))) × (y ≡ tableOf (tabled y)) ⌝ }
 {
     let n = t.n;
     copy_rows(t, s, n, append(copy_rows(t, 0, r, no_rows()), k, v))
@@ -137,7 +138,7 @@ pub fn with_row(t: Table, r: usize, s: usize, k: &[u8], v: u32) -> Table
 // All rows but row r.
 pub fn without_row(t: Table, r: usize) -> Table
     requires { ⌜ (r < t .n) × (t .n ≤ 64) ⌝ }
-    ensures { λ y. ⌜ tabled y ≡ take r (tabled t) ++ drop (r + 1) (tabled t) ⌝ }
+    ensures { λ y. ⌜ (tabled y ≡ take r (tabled t) ++ drop (r + 1) (tabled t)) × (y ≡ tableOf (tabled y)) ⌝ }
 {
     let n = t.n;
     copy_rows(t, r + 1, n, copy_rows(t, 0, r, no_rows()))

@@ -9,10 +9,10 @@ use borrow.Author.Tests.{le-leb, lt-leb}
 use lib.ListN.{length, getD}
 use Rattle.octets.specs.Place.{area}
 use Rattle.octets.proofs.Laws.{length-area}
-use Rattle.keys.specs.Entries.{Entry, entry}
+use Rattle.keys.specs.Entries.{Entry, entry, lengthOf}
 use Rattle.radix.specs.Shape.{node}
 use Rattle.radix.specs.Record.{Nodes, leadsOn, labelOf, valueOf, treeAt}
-use Rattle.keys.specs.Table.{lengthOf, Columns, rowsFrom}
+use Rattle.keys.specs.Table.{Columns, rowsFrom}
 use Rattle.radix.specs.Gathering.{withOwn, gathered}
 use Rattle.radix.proofs.Turns.{leads-to, tree-not, tree-node}
 use mathlib.Core.Bool.{true, false}

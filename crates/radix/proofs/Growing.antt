@@ -13,10 +13,10 @@ use lib.Seq.{take-take}
 use Rattle.octets.specs.Pick.{pick, both}
 use Rattle.octets.specs.Place.{area}
 use Rattle.octets.proofs.Laws.{length-area}
-use Rattle.keys.specs.Entries.{Entry, entry, rising}
+use Rattle.keys.specs.Entries.{Entry, entry, rising, lengthOf}
 use Rattle.radix.specs.Shape.{Shape, nil, node, nodes, common, cut, prefixOf, firstByte}
 use Rattle.radix.specs.Record.{Nodes}
-use Rattle.keys.specs.Table.{lengthOf, Columns, rowsFrom}
+use Rattle.keys.specs.Table.{Columns, rowsFrom}
 use Rattle.radix.specs.Layout.{flagOf, valueOr0, linkTo, withCell, laid}
 use Rattle.radix.specs.Sprout.{alike, group, stretch, ownFirst, afterOwn, firstKey, sproutNode, sproutAll, sprout}
 use Rattle.radix.specs.Rows.{alikeAt, shareAt, restAt, Ready}

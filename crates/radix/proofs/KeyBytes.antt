@@ -8,7 +8,7 @@ use lib.ListN.{getD}
 use Rattle.octets.specs.Pick.{pick}
 use Rattle.octets.specs.Bytes.{Bytes}
 use Rattle.octets.proofs.Laws.{bytes-area, bytes-append}
-use Rattle.keys.specs.Table.{lengthOf}
+use Rattle.keys.specs.Entries.{lengthOf}
 use Rattle.keys.proofs.Laws.{Keys, keys-append}
 use Rattle.radix.specs.Shape.{Shape, nil, node, ownEntry, entriesBelow}
 use Rattle.radix.specs.Record.{Nodes, labelOf, valueOf, treeAt}

@@ -13,9 +13,9 @@ use Rattle.octets.specs.Pick.{pick}
 use Rattle.octets.specs.Place.{area}
 use Rattle.octets.proofs.Laws.{area-cut, length-area}
 use Rattle.octets.specs.Compare.{orderOf, comesBefore}
-use Rattle.keys.specs.Entries.{Entry, entry, rising}
+use Rattle.keys.specs.Entries.{Entry, entry, rising, lengthOf}
 use Rattle.radix.specs.Shape.{common, cut, prefixOf, firstByte}
-use Rattle.keys.specs.Table.{lengthOf, Columns, rowAt, rowsFrom}
+use Rattle.keys.specs.Table.{Columns, rowAt, rowsFrom}
 use Rattle.radix.specs.Sprout.{alike}
 use Rattle.radix.specs.Rows.{alikeAt, restAt}
 use Rattle.keys.proofs.Laws.{Keys, before-le, before-nil, rising-tail, above-keys}

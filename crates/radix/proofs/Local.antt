@@ -9,7 +9,7 @@ use Rattle.octets.proofs.Laws.{length-area}
 use Rattle.radix.specs.Shape.{firstByte}
 use Rattle.radix.specs.Canon.{isNil, areSeveral, isOnly, isOneOf}
 use Rattle.radix.specs.Record.{Nodes, leadsOn, labelOf, valueOf, treeAt}
-use Rattle.keys.specs.Table.{lengthOf}
+use Rattle.keys.specs.Entries.{lengthOf}
 use Rattle.radix.proofs.Turns.{leads-to, nil-leads, tree-not, tree-node}
 
 not-not : (t : Bool) → not (not t) ≡ t

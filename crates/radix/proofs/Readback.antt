@@ -17,7 +17,7 @@ use Rattle.octets.specs.Place.{area}
 use Rattle.octets.proofs.Laws.{zero-all, area-area}
 use Rattle.radix.specs.Shape.{Shape, nil, node, nodes}
 use Rattle.radix.specs.Record.{Nodes, nodesOf, labelOf, valueOf, treeAt, treeOf, marksFrom, marksOf, isFree, isFlag, isTidy, isPlace, isRoot, areClean, isPlaced}
-use Rattle.keys.specs.Table.{lengthOf}
+use Rattle.keys.specs.Entries.{lengthOf}
 use Rattle.radix.specs.Layout.{flagOf, valueOr0, linkTo, laid, blank, placeShape}
 use Rattle.radix.proofs.Turns.{tree-nil, tree-node}
 use Rattle.radix.proofs.Marks.{mark-none, mark-step}

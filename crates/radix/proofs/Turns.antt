@@ -15,7 +15,7 @@ use Rattle.octets.proofs.Laws.{length-area, both-true, take-put-end}
 use Rattle.radix.specs.Shape.{Shape, nil, node, firstByte, startsWith}
 use Rattle.radix.specs.Canon.{isNil}
 use Rattle.radix.specs.Record.{Nodes, leadsOn, labelOf, valueOf, treeAt}
-use Rattle.keys.specs.Table.{lengthOf}
+use Rattle.keys.specs.Entries.{lengthOf}
 use Rattle.radix.specs.Walk.{reached, findIn}
 
 -- a label beside what is left of a key

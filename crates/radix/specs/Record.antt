@@ -29,10 +29,9 @@ use Rattle.octets.specs.Maybe.{need, _>>_, _>>=_}
 use Rattle.octets.specs.Bytes.{zeros}
 use Rattle.octets.specs.Place.{area}
 use Rattle.octets.specs.Compare.{allZero, same}
-use Rattle.keys.specs.Entries.{Entry, isMap}
+use Rattle.keys.specs.Entries.{Entry, isMap, lengthOf}
 use Rattle.radix.specs.Shape.{Shape, nil, node, entriesBelow, shape}
 use Rattle.radix.specs.declared.Index.{Index}
-use Rattle.keys.specs.Table.{lengthOf}
 
 -- the pool, without the root's place
 pub record Nodes : Type 0 where

@@ -7,9 +7,9 @@ use lib.Dec.{eqb}
 use lib.ListN.{length, getD}
 use Rattle.octets.specs.Pick.{pick}
 use Rattle.octets.specs.Place.{area}
-use Rattle.keys.specs.Entries.{Entry, rising}
+use Rattle.keys.specs.Entries.{Entry, rising, lengthOf}
 use Rattle.radix.specs.Shape.{common, cut, nodes}
-use Rattle.keys.specs.Table.{lengthOf, Columns, rowsFrom}
+use Rattle.keys.specs.Table.{Columns, rowsFrom}
 use Rattle.radix.specs.Sprout.{sprout}
 
 -- how many of the n rows from i on have the byte c at d, before one that has not

@@ -10,7 +10,7 @@ use Rattle.octets.specs.Place.{area}
 use Rattle.octets.proofs.Laws.{getD-area, area-area, length-area}
 use Rattle.radix.specs.Shape.{firstByte}
 use Rattle.radix.specs.Record.{labelOf}
-use Rattle.keys.specs.Table.{lengthOf}
+use Rattle.keys.specs.Entries.{lengthOf}
 use Rattle.radix_bytes.specs.Bytes.{wordsAt, recordFrom, poolIn}
 
 words-get : (w : ℕ) (s : List ℕ) (at n i : ℕ) → i < n → getD (wordsAt w s at n) i 0 ≡ leValue (area (at + w * i) w s)

@@ -5,7 +5,7 @@ ghost use Prim.Native.Nat.{_*_, _+_, _^_, _<_, _≤_};
 ghost use lib.ListN.{length, getD};
 ghost use Rattle.radix.specs.Shape.{firstByte};
 ghost use Rattle.radix.specs.Record.{labelOf};
-ghost use Rattle.keys.specs.Table.{lengthOf};
+ghost use Rattle.keys.specs.Entries.{lengthOf};
 ghost use Rattle.radix_bytes.specs.Bytes.{recordSize, recordFrom, poolIn};
 use crate::CHILDREN_AT;
 use crate::KEYS_AT;

@@ -8,7 +8,7 @@ use native.Mathlib.Omega.{arith}
 use borrow.Author.Tests.{ne-eqb, lt-ltb, le-ltb, le-leb, lt-leb}
 use lib.ListN.{getD, set}
 use Rattle.octets.specs.Maybe.{need, _>>_, _>>=_}
-use Rattle.keys.specs.Table.{lengthOf}
+use Rattle.keys.specs.Entries.{lengthOf}
 use Rattle.radix.specs.Shape.{firstByte}
 use Rattle.radix.specs.Record.{Nodes, labelOf}
 use Rattle.radix_judge.specs.Visit.{Seen, seenOf, isFit, visit}

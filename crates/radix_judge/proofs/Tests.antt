@@ -14,7 +14,7 @@ use Rattle.octets.specs.Bytes.{Bytes, leValue, zeros}
 use Rattle.octets.specs.Place.{area}
 use Rattle.octets.specs.Compare.{allZero}
 use Rattle.octets.proofs.Laws.{both-assoc, both-false, all-zero, zero-all, length-area, area-add, area-area, area-none, area-zeros, part-area, bytes-area, value-le-lt}
-use Rattle.keys.specs.Table.{lengthOf}
+use Rattle.keys.specs.Entries.{lengthOf}
 use Rattle.radix.specs.Canon.{isNil, isOnly, isOneOf}
 use Rattle.radix.specs.Record.{Nodes, labelOf, valueOf, treeAt, isRoot, isTidy}
 use Rattle.radix_bytes.specs.Bytes.{labelsAt, recordSize, poolIn}

@@ -13,8 +13,7 @@ use lib.Seq.{getD-set-same, getD-set-other}
 use Rattle.octets.specs.Pick.{pick, both}
 use Rattle.octets.specs.Maybe.{_>>_, _>>=_}
 use Rattle.octets.proofs.Laws.{both-true, both-of, needed, answered, some-is, length-area}
-use Rattle.keys.specs.Entries.{Entry, entry}
-use Rattle.keys.specs.Table.{lengthOf}
+use Rattle.keys.specs.Entries.{Entry, entry, lengthOf}
 use Rattle.radix.specs.Shape.{Shape, nil, node, firstByte}
 use Rattle.radix.specs.Canon.{rules}
 use Rattle.radix.specs.Record.{Nodes, labelOf, valueOf, treeAt, marksFrom, isFlag, isTidy}

@@ -11,9 +11,8 @@ use Rattle.octets.specs.Maybe.{need, _>>_, _>>=_}
 use Rattle.octets.specs.Bytes.{zeros}
 use Rattle.octets.specs.Place.{area}
 use Rattle.octets.specs.Compare.{allZero}
-use Rattle.keys.specs.Entries.{mostKeys}
+use Rattle.keys.specs.Entries.{mostKeys, lengthOf}
 use Rattle.keys.specs.Listing.{ifSo}
-use Rattle.keys.specs.Table.{lengthOf}
 use Rattle.radix.specs.Shape.{firstByte}
 use Rattle.radix.specs.Canon.{isNil, isOnly, isOneOf}
 use Rattle.radix.specs.Record.{Nodes, nodesOf, labelOf, valueOf, treeAt, isTidy, isFree, isRoot}

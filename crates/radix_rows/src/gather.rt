@@ -34,7 +34,7 @@ fn with_own(
     keys: &mut [u8],
 ) -> Gathered
     requires { ⌜ Room n (now rows) (now vals) (now keys) × ((length (now s) ≡ recordSize) × ((p < 256) × ((d ≤ 16) × (length (now path) ≡ 16)))) ⌝ }
-    ensures { λ r. ⌜ (rowsOf r (columns (now (rows .exit)) (now (vals .exit)) (now (keys .exit))) ≡ withOwn (take d (now (path .entry))) (valueOf (poolIn (now (s .entry))) p) (rowsFrom (columns (now (rows .entry)) (now (vals .entry)) (now (keys .entry))) 0 n)) × Within r ⌝ }
+    ensures { λ r. ⌜ (rowsOf r (columns (now (rows .exit)) (now (vals .exit)) (now (keys .exit))) ≡ withOwn (take d (now (path .entry))) (valueOf (poolIn (now (s .entry))) p) (rowsFrom (columns (now (rows .entry)) (now (vals .entry)) (now (keys .entry))) 0 n)) × Within r (columns (now (rows .exit)) (now (vals .exit)) (now (keys .exit))) ⌝ }
 {
     if radix_bytes::key_at(s, p) == 0 {
         return Gathered::Rows(n);
@@ -62,7 +62,7 @@ pub fn gather(
     keys: &mut [u8],
 ) -> Gathered
     requires { ⌜ Room n (now rows) (now vals) (now keys) × ((length (now s) ≡ recordSize) × ((d ≤ 16) × (length (now path) ≡ 16))) ⌝ }
-    ensures { λ r. ⌜ (rowsOf r (columns (now (rows .exit)) (now (vals .exit)) (now (keys .exit))) ≡ gathered (take d (now (path .entry))) (treeAt left (poolIn (now (s .entry))) link) (rowsFrom (columns (now (rows .entry)) (now (vals .entry)) (now (keys .entry))) 0 n)) × (Within r × (take d (now (path .exit)) ≡ take d (now (path .entry)))) ⌝ }
+    ensures { λ r. ⌜ (rowsOf r (columns (now (rows .exit)) (now (vals .exit)) (now (keys .exit))) ≡ gathered (take d (now (path .entry))) (treeAt left (poolIn (now (s .entry))) link) (rowsFrom (columns (now (rows .entry)) (now (vals .entry)) (now (keys .entry))) 0 n)) × (Within r (columns (now (rows .exit)) (now (vals .exit)) (now (keys .exit))) × (take d (now (path .exit)) ≡ take d (now (path .entry)))) ⌝ }
 {
     let mut rest = left;
     let mut at = link;

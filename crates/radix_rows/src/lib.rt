@@ -6,7 +6,7 @@ ghost use mathlib.Core.List.{[]};
 ghost use Prim.Native.Nat.{_<_};
 ghost use lib.ListN.{length};
 ghost use Rattle.keys.specs.Listing.{Lists};
-ghost use Rattle.keys.specs.Table.{tabled};
+ghost use Rattle.keys.specs.Table.{tabled, tableOf};
 ghost use Rattle.radix.specs.Gathering.{gathered};
 ghost use Rattle.radix.specs.Record.{treeOf, entriesOf};
 ghost use Rattle.radix_bytes.specs.Bytes.{recordSize, recordFrom};
@@ -20,7 +20,7 @@ use radix::Gathered;
 
 // A listing of no rows.
 fn unlisted() -> Listed
-    ensures { λ r. ⌜ (r .ok ≡ false) × ((tabled (r .table) ≡ []) × (r .table .n ≡ 0)) ⌝ }
+    ensures { λ r. ⌜ (r .ok ≡ false) × ((tabled (r .table) ≡ []) × ((r .table .n ≡ 0) × (r .table ≡ tableOf []))) ⌝ }
 {
     let table = keys::no_rows();
     Listed { ok: false, table }

@@ -12,10 +12,9 @@ use lib.Seq.{take-take, take-all, take-append-add, drop-at, length-take-le}
 use Rattle.octets.specs.Bytes.{zeros}
 use Rattle.octets.specs.Place.{area, put}
 use Rattle.octets.proofs.Laws.{by-order, area-front}
-use Rattle.keys.specs.Entries.{entry}
+use Rattle.keys.specs.Entries.{entry, lengthOf}
 use Rattle.radix.specs.Shape.{Shape, nil, node}
 use Rattle.radix.specs.Record.{Nodes, leadsOn, labelOf, valueOf, treeAt}
-use Rattle.keys.specs.Table.{lengthOf}
 use Rattle.radix.specs.Walk.{ownOf, leastIn, greatestIn}
 use Rattle.keys.specs.Answer.{padded}
 use Rattle.radix_walk.specs.Neighbours.{nearAt, nearOf, cutKey, alone, leastFrom, greatestFrom}

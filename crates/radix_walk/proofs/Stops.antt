@@ -15,9 +15,8 @@ use Rattle.octets.specs.Compare.{orderOf}
 use Rattle.octets.specs.declared.Order.{Order}
 use Rattle.octets.specs.declared.Order.the-variants.{Less, Equal, Greater}
 use Rattle.octets.proofs.Laws.{length-area, part-area}
-use Rattle.keys.specs.Entries.{Entry}
+use Rattle.keys.specs.Entries.{Entry, lengthOf}
 use Rattle.radix.specs.Record.{Nodes, leadsOn, labelOf, valueOf, treeAt}
-use Rattle.keys.specs.Table.{lengthOf}
 use Rattle.radix.specs.Walk.{ownOf, leastIn, leastOr, seekFirst, firstIn, greatestIn, seekLast, lastIn}
 use Rattle.radix_walk.specs.Neighbours.{stopAt, leastFrom, greatestFrom}
 use Rattle.radix_walk.specs.declared.near.Stop.{Stop}

@@ -1,12 +1,12 @@
 -- `append` meets its contract. Assumes nothing.
-use mathlib.Core.Path.{_≡_, refl, ap₂, _∙_}
+use mathlib.Core.Path.{_≡_, refl, ap, ap₂, _∙_}
 use mathlib.Core.List.{List}
-use Prim.Native.Nat.{ℕ}
+use Prim.Native.Nat.{ℕ, _+_}
 use native.Mathlib.Numerals.{add-one}
 use native.Mathlib.Omega.{arith}
 use borrow.Author.Needs.{needs}
 use lib.ListN.{length, set}
-use Rattle.keys.specs.Table.{columns, rowsFrom}
+use Rattle.keys.specs.Table.{columns, rowsFrom, tableBy}
 use Rattle.keys.proofs.Rows.{row-added}
 use Rattle.keys.proofs.row.append.Statement.{statement}
 use Rattle.keys.proofs.row.append.Tie as tie
@@ -38,4 +38,5 @@ append-spec =
       ap₂ (λ (m : ℕ) (l : List ℕ). rowsFrom (columns (set (t .len) (t .n) (length (x .k .now))) (set (t .val) (t .n) (x .v)) l) 0 m) (add-one (t .n)) (c.before .copy-in .ensures)
           ∙ row-added (t .len) (t .val) (t .key) (t .n) (length (x .k .now)) (x .v) (x .k .now) (lens c.before.before.before.before.before.before.before) (vals c.before.before.before.before.before.before.before) (keys c.before.before.before.before.before.before.before) (omega arith) refl (omega arith),
       refl,
+      ap (λ (l : List ℕ). tableBy (t .n + 1) (columns (set (t .len) (t .n) (length (x .k .now))) (set (t .val) (t .n) (x .v)) l)) (c.before .copy-in .ensures),
     )))

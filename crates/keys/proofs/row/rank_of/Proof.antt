@@ -10,7 +10,8 @@ use lib.ListN.{length}
 use Rattle.octets.specs.Place.{area}
 use Rattle.octets.proofs.Laws.{part-area}
 use Rattle.octets.specs.Compare.{comesBefore}
-use Rattle.keys.specs.Table.{lengthOf, columns, rowsFrom}
+use Rattle.keys.specs.Entries.{lengthOf}
+use Rattle.keys.specs.Table.{columns, rowsFrom}
 use Rattle.keys.specs.Rank.{rank}
 use Rattle.keys.proofs.Rows.{rank-stop, rank-more, rank-end}
 use Rattle.keys.proofs.row.rank_of.Statement.{statement}

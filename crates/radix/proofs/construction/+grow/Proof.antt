@@ -13,7 +13,8 @@ use Rattle.octets.specs.Pick.{pick}
 use Rattle.octets.specs.Place.{area}
 use Rattle.radix.specs.Shape.{Shape, node, nodes}
 use Rattle.radix.specs.Record.{Nodes, lent}
-use Rattle.keys.specs.Table.{lengthOf, Columns, columns}
+use Rattle.keys.specs.Entries.{lengthOf}
+use Rattle.keys.specs.Table.{Columns, columns}
 use Rattle.radix.specs.Layout.{laid, withCell}
 use Rattle.radix.specs.Sprout.{sprout}
 use Rattle.radix.specs.Rows.{restAt, Ready}

@@ -12,6 +12,7 @@ use borrow.Fn.Kinds.{In}
 use borrow.Fn.PlainCycle.{Measures, is, falls, and}
 use Rattle.octets.specs.Place.{area}
 use Rattle.radix.specs.declared.Gathered.{Gathered}
+use Rattle.radix.specs.declared.Gathered.the-variants.{Rows}
 use Rattle.radix.specs.Answer.{rowsOf, Room, Within}
 use Rattle.radix.specs.Gathering.{gathered}
 use Rattle.radix.specs.Record.{leadsOn, treeAt}
@@ -94,22 +95,30 @@ own-columns c = columns (c .with-own .last .1 .1 .1 .1 .1 .0) (c .with-own .last
 abbrev below-columns : {t : ℕ} → gather-lts.After-gather (calls t) (gather-at t) gather.Post Inv-loop μ-loop → Columns
 below-columns c = columns (c .gather .last .1 .1 .1 .1 .1 .1 .0) (c .gather .last .1 .1 .1 .1 .1 .1 .1 .0) (c .gather .last .1 .1 .1 .1 .1 .1 .1 .1 .0)
 
+own-within : (t : ℕ) (c : gather-lts.After-e (calls t) (gather-at t) gather.Post Inv-loop μ-loop) → Within (Rows (c .e .given .0 .0)) (own-columns c.before.before.before.before.before.before.before.before)
+own-within t c = subst (λ (r : Gathered). Within r (own-columns c.before.before.before.before.before.before.before.before)) (c .e .given .1) (c.before.before.before.before.before.before.before.before .with-own .ensures .1)
+
+below-within : (t : ℕ) (c : gather-lts.After-f (calls t) (gather-at t) gather.Post Inv-loop μ-loop) → Within (Rows (c .f .given .0 .0)) (below-columns c.before.before.before.before.before.before.before.before.before.before)
+below-within t c = subst (λ (r : Gathered). Within r (below-columns c.before.before.before.before.before.before.before.before.before.before)) (c .f .given .1) (c.before.before.before.before.before.before.before.before.before.before .gather .ensures .1 .0)
+
 own-room : (t : ℕ) (c : gather-lts.After-e (calls t) (gather-at t) gather.Post Inv-loop μ-loop) → Room (c .e .given .0 .0) (c.before.before.before.before.before.before.before.before .with-own .last .1 .1 .1 .1 .1 .0) (c.before.before.before.before.before.before.before.before .with-own .last .1 .1 .1 .1 .1 .1 .0) (c.before.before.before.before.before.before.before.before .with-own .last .1 .1 .1 .1 .1 .1 .1 .0)
 own-room t c =
     record {
-      rows = subst Within (c .e .given .1) (c.before.before.before.before.before.before.before.before .with-own .ensures .1);
+      rows = own-within t c .0;
       len-long = c.before.before.before.before.before.before.before.before .with-own .kept .1 .1 .1 .1 .1 .0 ∙ c.before.before.before.before.before.before.before.before.before.before.before.before.before.before.before.before.before.before.before.before.before .loop .inv .0 .len-long;
       val-long = c.before.before.before.before.before.before.before.before .with-own .kept .1 .1 .1 .1 .1 .1 .0 ∙ c.before.before.before.before.before.before.before.before.before.before.before.before.before.before.before.before.before.before.before.before.before .loop .inv .0 .val-long;
       key-long = c.before.before.before.before.before.before.before.before .with-own .kept .1 .1 .1 .1 .1 .1 .1 .0 ∙ c.before.before.before.before.before.before.before.before.before.before.before.before.before.before.before.before.before.before.before.before.before .loop .inv .0 .key-long;
+      exact = own-within t c .1;
     }
 
 below-room : (t : ℕ) (c : gather-lts.After-f (calls t) (gather-at t) gather.Post Inv-loop μ-loop) → Room (c .f .given .0 .0) (c.before.before.before.before.before.before.before.before.before.before .gather .last .1 .1 .1 .1 .1 .1 .0) (c.before.before.before.before.before.before.before.before.before.before .gather .last .1 .1 .1 .1 .1 .1 .1 .0) (c.before.before.before.before.before.before.before.before.before.before .gather .last .1 .1 .1 .1 .1 .1 .1 .1 .0)
 below-room t c =
     record {
-      rows = subst Within (c .f .given .1) (c.before.before.before.before.before.before.before.before.before.before .gather .ensures .1 .0);
+      rows = below-within t c .0;
       len-long = c.before.before.before.before.before.before.before.before.before.before .gather .kept .1 .1 .1 .1 .1 .1 .0 ∙ own-room t c.before.before.before.before.before.before.before.before.before.before.before.before.before.before.before.before.before.before.before .len-long;
       val-long = c.before.before.before.before.before.before.before.before.before.before .gather .kept .1 .1 .1 .1 .1 .1 .1 .0 ∙ own-room t c.before.before.before.before.before.before.before.before.before.before.before.before.before.before.before.before.before.before.before .val-long;
       key-long = c.before.before.before.before.before.before.before.before.before.before .gather .kept .1 .1 .1 .1 .1 .1 .1 .1 .0 ∙ own-room t c.before.before.before.before.before.before.before.before.before.before.before.before.before.before.before.before.before.before.before .key-long;
+      exact = below-within t c .1;
     }
 
 pub +gather-spec : {M : Type 1} → statement M
@@ -155,4 +164,4 @@ pub +gather-spec : {M : Type 1} → statement M
     (λ c. c.before.before .loop .inv .0 .len-long ∙ sym (c.before.before.before.before.before.before.before.before .pre .1 .0 .len-long))
     (λ c. c.before.before .loop .inv .0 .val-long ∙ sym (c.before.before.before.before.before.before.before.before .pre .1 .0 .val-long))
     (λ c. c.before.before .loop .inv .0 .key-long ∙ sym (c.before.before.before.before.before.before.before.before .pre .1 .0 .key-long))
-    (λ c. let x = c.before.before.before.before.before.before.before.before .args in let l = c.before.before .loop in (gather-nil (poolIn (x .s .now)) (l .rest) (l .at) _ _ (sym (c.before .leads .ensures) ∙ c .if1 .left) ∙ l .inv .1 .1 .1 .1, (l .inv .0 .rows, l .inv .1 .1 .1 .0)))
+    (λ c. let x = c.before.before.before.before.before.before.before.before .args in let l = c.before.before .loop in (gather-nil (poolIn (x .s .now)) (l .rest) (l .at) _ _ (sym (c.before .leads .ensures) ∙ c .if1 .left) ∙ l .inv .1 .1 .1 .1, ((l .inv .0 .rows, l .inv .0 .exact), l .inv .1 .1 .1 .0)))
