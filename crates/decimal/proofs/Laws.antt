@@ -49,11 +49,6 @@ text-is p h =
 pub pattern-of-text : (p : ℕ) → p < 2 ^ 64 → patternOf (textOf p) ≡ some p
 pattern-of-text p h = pattern (textOf p) p (text-is p h)
 
-pub text-injective : (p q : ℕ) → p < 2 ^ 64 → q < 2 ^ 64 → textOf p ≡ textOf q → p ≡ q
-text-injective p q h k e =
-    let a : some p ≡ some q = sym (pattern-of-text p h) ∙ ap patternOf e ∙ pattern-of-text q k in
-    cc
-
 pub text-length : (p : ℕ) → (1 ≤ length (textOf p)) × (length (textOf p) ≤ 20)
 unfolding textOf
 text-length p =

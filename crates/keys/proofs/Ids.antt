@@ -13,8 +13,8 @@ use Rattle.id.specs.declared.Id.{Id}
 use Rattle.id.specs.Id.{below, Fits64}
 use Rattle.id.specs.Bytes.{idBytes}
 use Rattle.id.proofs.Laws.{order-bytes, length-id-bytes, bytes-id}
-use Rattle.keys.specs.Entries.{entry, allAbove, rising, firstFrom, lastUpTo}
-use Rattle.keys.specs.Ids.{entriesBy, entryBy, AllFit64, aboveBy, risingBy, firstBy, lastBy}
+use Rattle.keys.specs.Entries.{entry, allAbove, firstFrom, lastUpTo}
+use Rattle.keys.specs.Ids.{entriesBy, entryBy, AllFit64, aboveBy, firstBy, lastBy}
 use Rattle.keys.proofs.Every.{Keys}
 
 pub before-ids : (a b : Id) → Fits64 a → Fits64 b → comesBefore (idBytes a) (idBytes b) ≡ below a b
@@ -25,12 +25,6 @@ module _ {A : Type 0} (f : A → Id) (v : A → ℕ) where
   unfolding allAbove aboveBy
   above-ids i [] p h = refl
   above-ids i (x ∷ xs) p h = ap₂ both (before-ids i (f x) p (h .0)) (above-ids (f x) xs (h .0) (h .1))
-
-  -- rising keys are rising IDs
-  pub rising-ids : (xs : List A) → AllFit64 f xs → rising (entriesBy f v xs) ≡ risingBy f xs
-  unfolding rising risingBy
-  rising-ids [] h = refl
-  rising-ids (x ∷ xs) h = above-ids (f x) xs (h .0) (h .1)
 
   pub first-ids : (i : Id) (xs : List A) → Fits64 i → AllFit64 f xs → firstFrom (idBytes i) (entriesBy f v xs) ≡ entryBy f v (firstBy f i xs)
   unfolding firstFrom firstBy

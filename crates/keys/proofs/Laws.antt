@@ -10,7 +10,7 @@ pub use Rattle.keys.proofs.Fits.{is-map, map-length, map-rising, map-fi
 -- put replaces or inserts, remove takes out, and neither changes another key's value
 pub use Rattle.keys.proofs.Maps.{lookup-append, lookup-none, or-none, lookup-insert, lookup-insert-other, lookup-without, lookup-without-other, rising-insert, rising-without, above-keys, above-absent}
 -- the neighbours: held, on the wanted side, none between; nothing exactly when none is on that side
-pub use Rattle.keys.proofs.Nearest.{FirstAt, first-at, first-none, none-first, LastAt, last-at, last-none, none-last, keys-held}
+pub use Rattle.keys.proofs.Nearest.{FirstAt, first-at, first-none, LastAt, last-at, last-none, keys-held}
 -- every operation on a map leaves a map
 pub use Rattle.keys.proofs.Kept.{map-insert, map-without, Small, AllSmall, operate-map, operations-map, reads-after, full-not, put-below-64, quiet-after, change-code}
 -- what is asked of a key and of what is none, and what the answers say
@@ -18,7 +18,7 @@ pub use Rattle.keys.proofs.Answers.{find-refused, find-reply, first-ref
 -- what the commands ask: every key after a put or a remove, a key above all, the first key, members, what put and remove leave
 pub use Rattle.keys.proofs.Members.{keys-insert, keys-without, insert-last, without-first, Member, here, there, found-member, member-found, put-after, remove-after}
 -- keys that are the bytes of IDs stand in the order of the IDs
-pub use Rattle.keys.proofs.Ids.{before-ids, rising-ids, first-ids, last-ids, ids-long, ids-bytes}
+pub use Rattle.keys.proofs.Ids.{before-ids, first-ids, last-ids, ids-long, ids-bytes}
 -- a key's place among the rows of a table
 pub use Rattle.keys.proofs.Positions.{rank-held, rank-most}
 pub use Rattle.keys.proofs.Rows.{length-rows, rows-first, rows-none, rows-take, rows-drop, rows-get, rows-same}

@@ -194,9 +194,3 @@ has-some k es h = go (lookup k es) h
     go : (o : Option ℕ) → heldIn o ≡ true → (v : ℕ) × (o ≡ some v)
     go none h = absurd (true≢false (sym h))
     go (some v) h = (v, refl)
-
-pub has-insert : (k : List ℕ) (v : ℕ) (es : List Entry) → has k (insert k v es) ≡ true
-has-insert k v es = ap heldIn (lookup-insert k v es)
-
-pub has-without : (k : List ℕ) (es : List Entry) → rising es ≡ true → has k (without k es) ≡ false
-has-without k es r = ap heldIn (lookup-without k es r)

@@ -89,13 +89,6 @@ first-all k (x ∷ es) h = go (comesBefore (x .key) k) refl (first-all k es) h
 pub first-none : (k : List ℕ) (es : List Entry) → firstFrom k es ≡ none → (j : List ℕ) (w : ℕ) → lookup j es ≡ some w → comesBefore j k ≡ true
 first-none k es h j w = keys-held (λ (x : List ℕ). comesBefore x k ≡ true) j w es (first-all k es h)
 
-pub none-first : (k : List ℕ) (es : List Entry) → rising es ≡ true → ((j : List ℕ) (w : ℕ) → lookup j es ≡ some w → comesBefore j k ≡ true) → firstFrom k es ≡ none
-none-first k es r h = go (firstFrom k es) refl
-  where
-    go : (o : Option Entry) → firstFrom k es ≡ o → o ≡ none
-    go none e = refl
-    go (some x) e = let f = first-at k x es r e in absurd (true≢false (sym (h (x .key) (x .value) (f .held)) ∙ f .from))
-
 -- e is the last at or below k
 pub record LastAt (k : List ℕ) (es : List Entry) (e : Entry) : Type 0 where
   pub held : lookup (e .key) es ≡ some (e .value)
@@ -137,10 +130,3 @@ last-at k e (x ∷ es) r h = go (comesBefore k (x .key)) refl (lastUpTo k es) re
           upTo = f .upTo;
           greatest = λ j w l q. found-cases j w x es l (λ u. ap (comesBefore (e .key)) u ∙ before-once (x .key) (e .key) (later-after (e .key) (e .value) x es r (f .held))) (λ l. f .greatest j w l q);
         }
-
-pub none-last : (k : List ℕ) (es : List Entry) → rising es ≡ true → ((j : List ℕ) (w : ℕ) → lookup j es ≡ some w → comesBefore k j ≡ true) → lastUpTo k es ≡ none
-none-last k es r h = go (lastUpTo k es) refl
-  where
-    go : (o : Option Entry) → lastUpTo k es ≡ o → o ≡ none
-    go none e = refl
-    go (some x) e = let f = last-at k x es r e in absurd (true≢false (sym (h (x .key) (x .value) (f .held)) ∙ f .upTo))

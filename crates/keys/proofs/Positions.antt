@@ -24,14 +24,6 @@ module _ (k : List ℕ) (e : Entry) (es : List Entry) where
   unfolding rank
   rank-not h = rw h
 
--- a loop over the rows
-module _ (k : List ℕ) (es : List Entry) (i : ℕ) (d : Entry) (h : i < length es) where
-  pub rank-next : comesBefore (getD es i d .key) k ≡ true → rank k (drop i es) ≡ suc (rank k (drop (suc i) es))
-  rank-next b = ap (rank k) (drop-cons es i d h) ∙ rank-before k (getD es i d) (drop (suc i) es) b
-
-  pub rank-here : comesBefore (getD es i d .key) k ≡ false → rank k (drop i es) ≡ 0
-  rank-here b = ap (rank k) (drop-cons es i d h) ∙ rank-not k (getD es i d) (drop (suc i) es) b
-
 pub rank-most : (k : List ℕ) (es : List Entry) → rank k es ≤ length es
 unfolding rank
 rank-most k [] = omega arith

@@ -29,12 +29,6 @@ outcomeReply outcome.Found e = found e
 outcomeReply outcome.Nothing e = nothing
 outcomeReply (outcome.Refused n) e = refused n
 
--- an outcome's number
-abbrev pub outcomeCode : Outcome → ℕ
-outcomeCode outcome.Found = 0
-outcomeCode outcome.Nothing = 32
-outcomeCode (outcome.Refused n) = n
-
 abbrev pub neighbourReply : Neighbour → Reply
 neighbourReply n = outcomeReply (n .outcome) (entry (take (n .len) (n .key)) (n .value))
 

@@ -28,10 +28,6 @@ unfoldable pub aboveBy : {A : Type 0} → (A → Id) → Id → List A → Bool
 aboveBy f i [] = true
 aboveBy f i (x ∷ xs) = both (below i (f x)) (aboveBy f (f x) xs)
 
-unfoldable pub risingBy : {A : Type 0} → (A → Id) → List A → Bool
-risingBy f [] = true
-risingBy f (x ∷ xs) = aboveBy f (f x) xs
-
 -- the first at or above i, and the last at or below
 unfoldable pub firstBy : {A : Type 0} → (A → Id) → Id → List A → Option A
 firstBy f i [] = none

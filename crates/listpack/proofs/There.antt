@@ -223,10 +223,6 @@ module _ (s : List ℕ) (at : ℕ) (b : Bytes s) (k : ElementAt s at) where
   unfolding sizeAt
   size-there = omega (arith, size-within (drop at s) (bytes-drop at b), length-drop at s, two-there s at k)
 
-  pub after-there : afterAt s at ≤ length s
-  unfolding afterAt
-  after-there = size-there
-
   module _ (e : Element) (q : e ≡ readElement (drop at s)) where
     pub integer-string : (p n : ℕ) → e ≡ Integer p n → stringAt s at ≡ textOf p
     unfolding stringAt

@@ -2,7 +2,7 @@
 use mathlib.Core.Path.{_≡_, refl}
 use mathlib.Core.Bool.{Bool, true, false, _&&_}
 use mathlib.Core.List.{List, [], _∷_, _++_}
-use Prim.Native.Nat.{ℕ, zero, suc, _+_, _-_, _/_, _<_, max}
+use Prim.Native.Nat.{ℕ, zero, suc, _+_, _-_, _/_, _<_}
 use native.Mathlib.Omega.{arith}
 use lib.Dec.{ltb}
 use lib.ListN.{length, getD, take, drop, set}
@@ -10,7 +10,7 @@ use lib.Pow.{areBytes}
 use lib.Seq.{getD-drop}
 use borrow.Author.Tests.{lt-ltb, ltb-true}
 use Rattle.octets.specs.Bytes.{Bytes, le, be, zeros}
-use Rattle.octets.specs.Place.{area, put, spliced, splicedEnd}
+use Rattle.octets.specs.Place.{area, put}
 
 pub bytes-nil : Bytes []
 bytes-nil = record { byte = λ i. omega arith }
@@ -56,15 +56,6 @@ bytes-area at n h = bytes-take n (bytes-drop at h)
 pub bytes-put : {s : List ℕ} (at : ℕ) {bs : List ℕ} → Bytes s → Bytes bs → Bytes (put s at bs)
 unfolding put
 bytes-put {s} at {bs} h k = bytes-append (bytes-take at h) (bytes-append k (bytes-drop (at + length bs) h))
-
-pub bytes-spliced : {s : List ℕ} (used at gone : ℕ) {new : List ℕ} → Bytes s → Bytes new → Bytes (spliced s used at gone new)
-unfolding spliced
-bytes-spliced {s} used at gone {new} h k =
-    let end : ℕ = splicedEnd used at gone new in
-    bytes-append (bytes-take at h)
-    (bytes-append k
-    (bytes-append (bytes-area (at + gone) (used - (at + gone)) h)
-    (bytes-append (bytes-zeros (used - end)) (bytes-drop (max used end) h))))
 
 pub bytes-le : (w v : ℕ) → Bytes (le w v)
 unfolding le

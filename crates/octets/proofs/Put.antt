@@ -5,8 +5,8 @@ use Prim.Native.Nat.{ℕ, zero, suc, _+_, _-_, _≤_, _<_}
 use native.Mathlib.Nat.{add-assoc, add-zero, zero-add, suc-add}
 use native.Mathlib.Numerals.{add-one}
 use native.Mathlib.Omega.{arith}
-use lib.ListN.{length, take, drop, set, getD, List·getD-append, length-append, length-take, length-drop, take-append-drop}
-use lib.Seq.{take-at, drop-at, take-append-le, drop-append-le, drop-append-add, take-append-add, take-take, drop-drop, set-split, length-take-le, take-nil, drop-length, getD-append-add, getD-take, getD-drop}
+use lib.ListN.{length, take, drop, set, length-append, length-take, length-drop, take-append-drop}
+use lib.Seq.{take-at, drop-at, take-append-le, drop-append-le, drop-append-add, take-append-add, take-take, drop-drop, set-split, length-take-le, take-nil, drop-length}
 use Rattle.octets.specs.Bytes.{zeros}
 use Rattle.octets.specs.Place.{put}
 
@@ -68,28 +68,6 @@ module _ (s : List ℕ) (at : ℕ) (bs : List ℕ) where
       ∙ drop-drop m (at + length bs) s
       ∙ ap (λ (j : ℕ). drop j s) (sym q)
 
-  -- single bytes
-  pub getD-put : (i : ℕ) → at ≤ length s → i < length bs → getD (put s at bs) (at + i) 0 ≡ getD bs i 0
-  unfolding put
-  getD-put i h k =
-      ap (λ (n : ℕ). getD (put s at bs) (n + i) 0) (sym (length-take-le at s h))
-      ∙ getD-append-add (take at s) (bs ++ drop (at + length bs) s) i 0
-      ∙ List·getD-append bs (drop (at + length bs) s) 0 i k
-
-  pub getD-put-before : (i : ℕ) → at ≤ length s → i < at → getD (put s at bs) i 0 ≡ getD s i 0
-  unfolding put
-  getD-put-before i h k =
-      List·getD-append (take at s) (bs ++ drop (at + length bs) s) 0 i (omega (arith, length-take-le at s h)) ∙ getD-take at s i 0 k
-
-  pub getD-put-after : (i : ℕ) → at ≤ length s → at + length bs ≤ i → getD (put s at bs) i 0 ≡ getD s i 0
-  getD-put-after i h k =
-      let q : i ≡ i + 0 = omega arith in
-      ap (λ (n : ℕ). getD (put s at bs) n 0) q
-      ∙ sym (getD-drop i (put s at bs) 0 0)
-      ∙ ap (λ (l : List ℕ). getD l 0 0) (drop-put i h k)
-      ∙ getD-drop i s 0 0
-      ∙ ap (λ (n : ℕ). getD s n 0) (sym q)
-
   -- within what is kept: before the cut, and after it
   pub take-put-in : (n : ℕ) → at + length bs ≤ n → n ≤ length s → take n (put s at bs) ≡ put (take n s) at bs
   unfolding put
@@ -110,10 +88,6 @@ module _ (s : List ℕ) (at : ℕ) (bs : List ℕ) where
       let e : ℕ = at + length bs + length xs in
       put-as (put s at bs) (at + length bs) xs (take at s ++ bs) (drop e s) (take-put-end h) (drop-put e h (omega arith))
       ∙ simp (append-assoc, length-append, add-assoc)
-
-  pub put-over : (xs : List ℕ) → at ≤ length s → length bs ≤ length xs → put (put s at bs) at xs ≡ put s at xs
-  put-over xs h k =
-      put-as (put s at bs) at xs (take at s) (drop (at + length xs) s) (take-put at h (omega arith)) (drop-put (at + length xs) h (omega arith)) ∙ sym (put-is s at xs)
 
 -- two places apart: the order does not matter
 pub put-swap : (s : List ℕ) (at : ℕ) (xs : List ℕ) (to : ℕ) (ys : List ℕ) → at + length xs ≤ to → to ≤ length s → put (put s at xs) to ys ≡ put (put s to ys) at xs

@@ -71,18 +71,6 @@ spare-some nil h = absurd h
 spare-some (node l v below nil) h = omega arith
 spare-some (node l v below (node l′ v′ below′ later)) h = omega arith
 
-spare-part : (first : Bool) (s : Shape) → Some (entriesBelow [] s) → 2 ≤ spare first s
-unfolding entriesBelow spare width
-spare-part first nil h = absurd h
-spare-part true (node l v below nil) h = omega arith
-spare-part true (node l v below (node l′ v′ below′ later)) h = omega arith
-spare-part false (node l v below later) h = omega arith
-
--- of any part of a shape, and of all the children of a node
-pub part-nodes : {first : Bool} {least : ℕ} {s : Shape} → Rules first least s → Some (entriesBelow [] s) → nodes s + 2 ≤ 4 * length (entriesBelow [] s)
-unfolding keys
-part-nodes {first} {s = s} r h = omega (arith, spare-nodes r, spare-part first s h)
-
 pub children-nodes : {s : Shape} → Rules true 0 s → Some (entriesBelow [] s) → nodes s + 3 ≤ 4 * length (entriesBelow [] s)
 unfolding keys
 children-nodes {s} r h = omega (arith, spare-nodes r, spare-some s h)

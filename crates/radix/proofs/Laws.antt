@@ -38,7 +38,7 @@ pub use Rattle.radix.proofs.Fields.{AllBelow, Fields}
 pub use Rattle.radix.proofs.FieldBytes.{ByteFields}
 -- find by a walk is lookup, and the rows of a record's tree
 pub use Rattle.radix.proofs.Lookups.{shape-find}
-pub use Rattle.radix.proofs.Whole.{shape-gathered, not-canonical, not-gathered, is-gathered}
+pub use Rattle.radix.proofs.Whole.{shape-gathered, is-gathered}
 pub use Rattle.radix.proofs.Listing.{none-listed, root-within, lists-none, lists-some, tree-listed}
 -- what a walk over a record tests, one node and one place at a time
 pub use Rattle.radix.proofs.Local.{not-several, by-next, only-empty, only-key, only-parted, one-long, one-low, one-key, one-below}

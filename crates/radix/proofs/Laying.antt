@@ -28,9 +28,6 @@ drop-area d at n s h =
     let e : at + n ≡ at + d + (n - d) = omega arith in
     ap (drop d) (area-cut at n s) ∙ drop-drop d at (take (at + n) s) ∙ ap (λ (k : ℕ). drop (at + d) (take k s)) e ∙ sym (area-cut (at + d) (n - d) s)
 
-cut-row : Columns → ℕ → ℕ → Entry
-cut-row t d i = entry (drop d (rowAt t i .key)) (rowAt t i .value)
-
 -- rows as entries
 module _ (t : Columns) (d : ℕ) where
   pub cut-cons : (i n : ℕ) → cut d (rowsFrom t i (suc n)) ≡ entry (drop d (area (16 * i) (lengthOf (t .len) i) (t .key))) (getD (t .val) i 0) ∷ cut d (rowsFrom t (i + 1) n)

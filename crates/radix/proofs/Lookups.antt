@@ -13,13 +13,12 @@ use Rattle.octets.specs.Compare.{same}
 use Rattle.octets.proofs.Laws.{same-true}
 use Rattle.keys.specs.Entries.{Entry, lookup, isMap}
 use Rattle.radix.specs.Shape.{Shape, nil, node, ownEntry, entriesBelow, shape, startsWith}
-use Rattle.radix.specs.Canon.{canonical}
 use Rattle.radix.specs.Walk.{reached, findIn}
 use Rattle.radix.proofs.Under.{under, remainders, entries-node}
 use Rattle.radix.proofs.Keys.{StartsAt, From, keys-below}
 use Rattle.keys.proofs.Laws.{keys-map, is-false, lookup-append, lookup-none, or-none}
 use Rattle.radix.proofs.Labels.{starts-split, starts-append}
-use Rattle.radix.proofs.Rules.{Rules, leaf, only, oneOf, canonical-rules, canonical-from, rules-from}
+use Rattle.radix.proofs.Rules.{Rules, leaf, only, oneOf, canonical-from, rules-from}
 use Rattle.radix.proofs.Back.{shape-back, shape-rules}
 
 same-under : (l a b : List ℕ) → same (l ++ a) (l ++ b) ≡ same a b
@@ -89,9 +88,6 @@ rules-find leaf k = refl
 rules-find (only {a = a} {l = l} {v = v} {below = below} e b) k = find-node a l v below nil (canonical-from b) tt (rules-find b) (λ k. refl) k
 rules-find (oneOf {a = a} {v = v} {below = below} {later = later} n h e b m) k =
     find-node a [] v below later (canonical-from b) (rules-from m) (rules-find b) (rules-find m) k
-
-pub canonical-find : (s : Shape) → canonical s ≡ true → (k : List ℕ) → findIn s k ≡ lookup k (entriesBelow [] s)
-canonical-find s c = rules-find (canonical-rules s c)
 
 pub shape-find : (es : List Entry) → isMap es ≡ true → (k : List ℕ) → findIn (shape es) k ≡ lookup k es
 shape-find es m k = rules-find (shape-rules es m) k ∙ ap (lookup k) (shape-back es m)

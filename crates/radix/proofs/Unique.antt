@@ -15,7 +15,7 @@ use Rattle.radix.proofs.Under.{under, remainders, entries-node, entries
 use Rattle.keys.proofs.Laws.{Keys, Short, keys-right, is-map}
 use Rattle.radix.proofs.Keys.{From, StartsAt, keys-below, longer-from, own-from, starting-none, others-all}
 use Rattle.radix.proofs.Fits.{fit-short}
-use Rattle.radix.proofs.Back.{children-good, shape-back, shape-canonical}
+use Rattle.radix.proofs.Back.{children-good}
 use Rattle.radix.proofs.Rules.{Rules, leaf, only, oneOf, Some, canonical-rules, canonical-from, rules-from, rules-rising, rules-some, end-held, held-entries, prefix-some}
 
 -- the remainders at a node, taken apart again
@@ -200,7 +200,3 @@ module _ (s : Shape) (c : canonical s ≡ true) where
 
   pub canonical-map : length (entriesBelow [] s) ≤ 64 → allFit (entriesBelow [] s) ≡ true → isMap (entriesBelow [] s) ≡ true
   canonical-map n f = is-map (entriesBelow [] s) n canonical-rising f
-
--- the other way round: what the shape of a map is
-pub of-shape : (s : Shape) (es : List Entry) → isMap es ≡ true → shape es ≡ s → (canonical s ≡ true) × (entriesBelow [] s ≡ es)
-of-shape s es m e = (ap canonical (sym e) ∙ shape-canonical es m, ap (entriesBelow []) (sym e) ∙ shape-back es m)

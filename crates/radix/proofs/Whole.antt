@@ -260,19 +260,6 @@ module _ (t : Shape) where
       let f = map-fit es (p .0) in
       (c, gather-all (canonical-rules t c) [] [] (record { short = fit-short es f; vals = fit-vals es f; room = omega (arith, map-length es (p .0)) }))
 
-  -- where no entries are gathered, none are held
-  not-held : (b : Bool) → both (isMap es) (sameShape t (shape es)) ≡ b → ((canonical t ≡ true) × (gathered [] t [] ≡ some es) → ⊥) → none ≡ heldIn t
-  unfolding es heldIn
-  not-held true h f = absurd (f (is-held h))
-  not-held false h f = rw h
-
-  -- no rules kept; not gathered; gathered
-  pub not-canonical : canonical t ≡ false → none ≡ heldIn t
-  not-canonical c = not-held _ refl (λ p. true≢false (sym (p .0) ∙ c))
-
-  pub not-gathered : gathered [] t [] ≡ none → none ≡ heldIn t
-  not-gathered g = not-held _ refl (λ p. let q = p .1 in let z : _≡_ {A = ℕ} 0 1 = cc in omega arith)
-
   pub is-gathered : (r : List Entry) → canonical t ≡ true → gathered [] t [] ≡ some r → some r ≡ heldIn t
   is-gathered r c g = held r c g
 

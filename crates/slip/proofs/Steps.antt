@@ -1,7 +1,6 @@
 -- A cursor on a slip: it stands before its first pair, each step hands out the next pair, and the last one is done.
 -- Assumes nothing.
 use mathlib.Core.Path.{_≡_, sym, ap, ap₂, _∙_}
-use mathlib.Core.Bool.{true}
 use mathlib.Core.List.{List, [], _∷_, _++_}
 use mathlib.Core.Option.{some}
 use Prim.Native.Nat.{ℕ, suc, _+_, _-_, _≤_}
@@ -11,19 +10,15 @@ use Rattle.octets.specs.Place.{area}
 use Rattle.octets.proofs.Laws.{length-area}
 use Rattle.slip.specs.Pair.{Pair, isPairCount}
 use Rattle.slip.specs.Slip.{slipString, slipPairs, slip, parsePairs, parseSlip}
-use Rattle.slip.specs.Answer.{isSlip, pairsBy, pairsIn, lengthAt, cursor, pairsAt, stepOf}
+use Rattle.slip.specs.Answer.{pairsBy, pairsIn, lengthAt, cursor, pairsAt, stepOf}
 use Rattle.slip.specs.declared.SlipCursor.{SlipCursor}
-use Rattle.slip.specs.declared.SlipStep.the-variants.{Found, Done}
+use Rattle.slip.specs.declared.SlipStep.the-variants.{Found}
 use Rattle.octets.proofs.Laws.{needed}
 use Rattle.slip.proofs.Strings.{length-string}
 use Rattle.slip.proofs.Pairs.{pairs-count}
-use Rattle.slip.proofs.Walk.{first-at, step-done, step-found}
+use Rattle.slip.proofs.Walk.{first-at, step-found}
 
 module _ (s : List ℕ) (ps : List Pair) (e : parseSlip s ≡ some ps) where
-  pub slip-is : isSlip s ≡ true
-  unfolding isSlip
-  slip-is = rw e
-
   pub pairs-in : pairsIn s ≡ ps
   unfolding pairsIn
   pairs-in = ap pairsBy e
@@ -50,10 +45,6 @@ pub record Stepped (s : List ℕ) (c : SlipCursor) (p : Pair) (ps : List Pair) :
   pub value-is : area (valueAt c p) (length (p .value)) s ≡ p .value
   pub next-is : pairsAt s (after c p) ≡ some ps
   pub within : after c p .at ≤ length s
-
-pub stepped-done : (s : List ℕ) (c : SlipCursor) → pairsAt s c ≡ some [] → stepOf s c ≡ Done
-unfolding pairsAt
-stepped-done s c e = step-done s c (sym (pairs-count (c .left) (drop (c .at) s) [] e))
 
 pub stepped : (s : List ℕ) (c : SlipCursor) (p : Pair) (ps : List Pair) → pairsAt s c ≡ some (p ∷ ps) → Stepped s c p ps
 unfolding pairsAt
