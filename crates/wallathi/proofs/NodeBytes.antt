@@ -7,15 +7,15 @@ use lib.ListN.{length}
 use Rattle.octets.specs.Bytes.{Bytes}
 use Rattle.octets.proofs.Laws.{both-true, bytes-append, bytes-zeros}
 use Rattle.id.specs.declared.Id.{Id}
-use Rattle.id.specs.Id.{isId}
 use Rattle.decimal.proofs.Laws.{text-bytes}
 use Rattle.listpack.proofs.Laws.{Each, each-none, each-more, listpack-bytes}
-use Rattle.slip.specs.Pair.{isPairCount, areStrings, arePairs}
+use Rattle.slip.specs.Pair.{areStrings}
 use Rattle.slip.proofs.Laws.{strings-first, is-string}
 use Rattle.node.specs.Message.{Pair, Entry, fieldsOf, valuesOf, sameStrings, liveCount, deletedCount, isMessage, messageOf}
 use Rattle.node.specs.Bytes.{keyOf, masterFields, masterStrings, flagsOf, pairStrings, bodyStrings, countOf, entryStrings, entriesStrings, nodeStrings, nodeBytes, nodeSize, slotOf}
 use Rattle.node.specs.Rules.{isNode, areMessages}
 use Rattle.node.proofs.Laws.{is-node, short-node}
+use Rattle.node.proofs.Nodes.{strings-of}
 
 each-append : {xs ys : List (List ℕ)} → Each Bytes xs → Each Bytes ys → Each Bytes (xs ++ ys)
 each-append each-none k = k
@@ -39,10 +39,6 @@ pairs-bytes (p ∷ ps) e =
 body-bytes : (matching : Bool) (ps : List Pair) → areStrings ps ≡ true → Each Bytes (bodyStrings matching ps)
 body-bytes true ps e = values-bytes ps e
 body-bytes false ps e = each-more (text-bytes (length ps)) (pairs-bytes ps e)
-
-strings-of : (e : Entry) → isMessage (messageOf e) ≡ true → areStrings (e .pairs) ≡ true
-unfolding isMessage arePairs
-strings-of e h = both-true (isPairCount (length (e .pairs))) (areStrings (e .pairs)) (both-true (isId (e .id)) (arePairs (e .pairs)) h .1) .1
 
 entries-bytes : (key : Id) (fields : List (List ℕ)) (es : List Entry) → areMessages es ≡ true → Each Bytes (entriesStrings key fields es)
 unfolding entriesStrings entryStrings areMessages
