@@ -1,25 +1,45 @@
 -- What a judged slot is known to be, and the answers at each return. Assumes nothing.
-use mathlib.Core.Path.{_≡_, refl, ap, _∙_}
+use mathlib.Core.Path.{_≡_, refl, sym, ap, _∙_}
 use mathlib.Core.Bool.{Bool, true, false, not}
 use mathlib.Core.List.{List}
+use mathlib.Core.Option.{Option, some, none}
 use Prim.Native.Nat.{ℕ, _≤_, _<_}
 use native.Mathlib.Omega.{arith}
 use lib.Dec.{leb}
 use borrow.Author.Tests.{le-leb, lt-leb}
+use Rattle.octets.specs.Pick.{pick, both}
 use Rattle.octets.specs.Maybe.{isNone}
 use Rattle.id.specs.declared.Id.{Id}
-use Rattle.id.specs.Id.{least, greatest}
+use Rattle.id.specs.Id.{least, greatest, below, atMost}
 use Rattle.slip.specs.Answer.{isSlip}
-use Rattle.node.specs.Message.{liveIn, liveCount}
-use Rattle.node.specs.Bytes.{slotOf}
+use Rattle.node.specs.Message.{Entry, liveIn, liveCount, deletedCount}
+use Rattle.node.specs.Bytes.{keyOf, slotOf}
+use Rattle.node.specs.Parse.{parseSlot}
 use Rattle.node.specs.Step.{append, takes, markDeleted, findMessage}
-use Rattle.node.specs.Answer.{entriesIn, SoundSlot, judgeOf}
+use Rattle.node.specs.Answer.{lastOf, entriesBy, entriesIn, SoundSlot, judgeBy, judgeOf}
 use Rattle.node.specs.declared.judging.Judged.{Judged}
 use Rattle.node.specs.declared.judging.Judged.the-variants.{Sound, Bad}
-use Rattle.node.proofs.Laws.{judged-sound}
 use Rattle.node_write.specs.Answer.{messageIn}
 use Rattle.bench_node.specs.Answer.{asNumber}
 use Rattle.bench_node.specs.Node.{liveBy, soundBy, liveOf, isSound, isLive, finds, appends, appended, deletes, deleted}
+
+-- a slot that was judged sound
+judged-sound : (key above most : Id) (slot : List ℕ) (live deleted : ℕ) (last : Id) → judgeOf key above most slot ≡ Sound live deleted last
+    → SoundSlot key slot × (liveCount (entriesIn key slot) ≡ live)
+unfolding judgeOf entriesIn
+judged-sound key above most slot live deleted last e = by (parseSlot key slot) refl e
+  where
+    by : (o : Option (List Entry)) → parseSlot key slot ≡ o → judgeBy above most o ≡ Sound live deleted last → SoundSlot key slot × (liveCount (entriesIn key slot) ≡ live)
+    by none q f = absurd (let z : _≡_ {A = ℕ} 0 1 = cc in omega arith)
+    by (some es) q f = next (both (below above (keyOf es)) (atMost (lastOf (keyOf es) es) most)) f
+      where
+        next : (t : Bool) → pick t (Sound (liveCount es) (deletedCount es) (lastOf (keyOf es) es)) Bad ≡ Sound live deleted last
+            → SoundSlot key slot × (liveCount (entriesIn key slot) ≡ live)
+        next false g = absurd (let z : _≡_ {A = ℕ} 0 1 = cc in omega arith)
+        next true g =
+            let i : entriesIn key slot ≡ es = ap entriesBy q in
+            let a : liveCount es ≡ live = cc in
+            (record { parsed = q ∙ ap some (sym i) }, ap liveCount i ∙ a)
 
 module _ (key : Id) (slot : List ℕ) where
   pub sound-by : (j : Judged) → j ≡ judgeOf key least greatest slot → soundBy j ≡ isSound key slot
@@ -35,7 +55,7 @@ module _ (key : Id) (slot : List ℕ) where
   sound-slot t = by (judgeOf key least greatest slot) refl t
     where
       by : (j : Judged) → judgeOf key least greatest slot ≡ j → soundBy j ≡ true → SoundSlot key slot
-      by (Sound live dead last) q u = judged-sound key least greatest slot live dead last q .sound
+      by (Sound live dead last) q u = judged-sound key least greatest slot live dead last q .0
       by Bad q u = absurd (let z : _≡_ {A = ℕ} 0 1 = ap asNumber u in omega arith)
 
   pub live-slot : 2 ≤ liveOf key slot → SoundSlot key slot × (2 ≤ liveCount (entriesIn key slot))
@@ -45,7 +65,7 @@ module _ (key : Id) (slot : List ℕ) where
       by : (j : Judged) → judgeOf key least greatest slot ≡ j → 2 ≤ liveBy j → SoundSlot key slot × (2 ≤ liveCount (entriesIn key slot))
       by (Sound live dead last) q u =
           let s = judged-sound key least greatest slot live dead last q in
-          (s .sound, omega (arith, s .live-is))
+          (s .0, omega (arith, s .1))
       by Bad q u = absurd (omega arith)
 
   module _ (i : Id) where
