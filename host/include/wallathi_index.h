@@ -14,7 +14,7 @@
  * two records hold, not their bytes.
  *
  * What a call costs: every call validates the whole record, and a put or a remove that changes something builds it anew. With 63 names
- * of 15 bytes a find takes some 14,400 instructions, a put 78,000. A put and a remove need 48 KB of stack (35 KB were measured), every
+ * of 15 bytes a find takes some 14,400 instructions, a put 77,000. A put and a remove need 36 KB of stack (28 KB were measured), every
  * other call 4 KB (2.3 KB).
  *
  * Each function answers one of the numbers below. If several refusals apply, the lowest is answered. Unless the answer is

@@ -58,6 +58,11 @@ placeShape s =
       label = laid s 1 blank .label;
     }
 
+-- a record of a pool, its root at place 0
+abbrev pub rooted : Nodes → Index
+rooted x =
+    record { root = 0; len = x .len; key = x .key; child = x .child; next = x .next; val = x .val; label = x .label }
+
 -- the record that is made of entries
 pub recordOf : List Entry → Index
 recordOf es = placeShape (shape es)

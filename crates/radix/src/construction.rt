@@ -8,13 +8,12 @@ ghost use lib.ListN.{length, getD};
 ghost use Rattle.octets.specs.Pick.{pick, both};
 ghost use Rattle.octets.specs.Place.{area};
 ghost use Rattle.radix.specs.Shape.{common, nodes};
-ghost use Rattle.keys.specs.Table.{columns, tabled};
+ghost use Rattle.keys.specs.Table.{lengthOf, columns, tabled};
 ghost use Rattle.radix.specs.Record.{lent};
-ghost use Rattle.radix.specs.Layout.{withCell, laid, recordOf};
+ghost use Rattle.radix.specs.Layout.{withCell, laid, blank, recordOf, rooted};
 ghost use Rattle.radix.specs.Sprout.{sprout};
 ghost use Rattle.radix.specs.Rows.{alikeAt, shareAt, restAt, Ready};
-ghost use Rattle.keys.specs.Entries.{isMap, lengthOf};
-use crate::Index;
+ghost use Rattle.keys.specs.Entries.{isMap};
 use keys::Table;
 use keys::row_len;
 
@@ -217,18 +216,20 @@ pub fn grow<'a>(
     g + 1
 }
 
-// The record of a table of a map, its root at place 0.
-pub fn build(t: Table) -> Index
-    requires { ⌜ isMap (tabled t) ≡ true ⌝ }
-    ensures { λ r. ⌜ r ≡ recordOf (tabled t) ⌝ }
+// The record of a table of a map, its root at place 0, in arrays that are lent full of zeros.
+pub fn build(
+    t: Table,
+    len: &mut [u8; 256],
+    key: &mut [u8; 256],
+    child: &mut [u16; 256],
+    next: &mut [u16; 256],
+    val: &mut [u32; 256],
+    label: &mut [u8],
+)
+    requires { ⌜ (isMap (tabled t) ≡ true) × (lent (now len) (now key) (now child) (now next) (now val) (now label) ≡ blank) ⌝ }
+    ensures { λ _. ⌜ rooted (lent (now (len .exit)) (now (key .exit)) (now (child .exit)) (now (next .exit)) (now (val .exit)) (now (label .exit))) ≡ recordOf (tabled t) ⌝ }
 {
     let n = t.n;
-    let mut len = [0u8; 256];
-    let mut key = [0u8; 256];
-    let mut child = [0u16; 256];
-    let mut next = [0u16; 256];
-    let mut val = [0u32; 256];
-    let mut label = [0u8; 4096];
     let end = grow(
         &t.len,
         &t.val,
@@ -239,21 +240,12 @@ pub fn build(t: Table) -> Index
         0,
         true,
         1,
-        &mut len,
-        &mut key,
-        &mut child,
-        &mut next,
-        &mut val,
-        &mut label,
-    );
-    child[0] = link_over(1, end) as u16;
-    Index {
-        root: 0,
         len,
         key,
         child,
         next,
         val,
         label,
-    }
+    );
+    child[0] = link_over(1, end) as u16;
 }

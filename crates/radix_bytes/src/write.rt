@@ -9,7 +9,8 @@ ghost use Rattle.octets.specs.Bytes.{le};
 ghost use Rattle.octets.specs.Place.{put};
 ghost use Rattle.keys.specs.Entries.{isMap};
 ghost use Rattle.keys.specs.Table.{tabled};
-ghost use Rattle.radix.specs.Layout.{recordOf};
+ghost use Rattle.radix.specs.Record.{lent};
+ghost use Rattle.radix.specs.Layout.{recordOf, rooted};
 ghost use Rattle.radix_bytes.specs.Bytes.{recordSize, childrenAt, wordBytes, bytesOf, recordFrom, Fit};
 use crate::CHILDREN_AT;
 use crate::KEYS_AT;
@@ -18,7 +19,6 @@ use crate::LENS_AT;
 use crate::NEXTS_AT;
 use crate::VALUES_AT;
 use keys::Table;
-use radix::Index;
 
 fn wide_link(x: u16) -> u64
     ensures { λ r. ⌜ (r ≡ x) × (r < 2 ^ 16) ⌝ }
@@ -71,21 +71,44 @@ fn write_tree<'a>(child: &'a [u16], next: &'a [u16], out: &mut [u8])
     write_links(out, NEXTS_AT, next);
 }
 
-// A record, which is then read back.
-fn write_record(x: Index, out: &mut [u8])
+// The record of these arrays, its root at place 0, which is then read back.
+fn write_record<'a>(
+    len: &'a [u8; 256],
+    key: &'a [u8; 256],
+    child: &'a [u16; 256],
+    next: &'a [u16; 256],
+    val: &'a [u32; 256],
+    label: &'a [u8; 4096],
+    out: &mut [u8],
+)
     requires { ⌜ length (now out) ≡ recordSize ⌝ }
-    ensures { λ _. ⌜ (now (out .exit) ≡ bytesOf x) × (recordFrom (now (out .exit)) ≡ x) ⌝ }
+    ensures { λ _. ⌜ (now (out .exit) ≡ bytesOf (rooted (lent (now (len .entry)) (now (key .entry)) (now (child .entry)) (now (next .entry)) (now (val .entry)) (now (label .entry))))) × (recordFrom (now (out .exit)) ≡ rooted (lent (now (len .entry)) (now (key .entry)) (now (child .entry)) (now (next .entry)) (now (val .entry)) (now (label .entry)))) ⌝ }
 {
-    write_head(x.root, &x.len, &x.key, out);
-    write_tree(&x.child, &x.next, out);
-    write_values(out, VALUES_AT, &x.val);
-    octets::copy_in(out, LABELS_AT, &x.label);
+    write_head(0, len, key, out);
+    write_tree(child, next, out);
+    write_values(out, VALUES_AT, val);
+    octets::copy_in(out, LABELS_AT, label);
 }
 
-// The record of a table of a map.
+// The record of a table of a map: its arrays are made, and then written.
 pub fn build(t: Table, out: &mut [u8])
     requires { ⌜ (isMap (tabled t) ≡ true) × (length (now out) ≡ recordSize) ⌝ }
     ensures { λ _. ⌜ (now (out .exit) ≡ bytesOf (recordOf (tabled t))) × (recordFrom (now (out .exit)) ≡ recordOf (tabled t)) ⌝ }
 {
-    write_record(radix::build(t), out);
+    let mut len = [0u8; 256];
+    let mut key = [0u8; 256];
+    let mut child = [0u16; 256];
+    let mut next = [0u16; 256];
+    let mut val = [0u32; 256];
+    let mut label = [0u8; 4096];
+    radix::build(
+        t,
+        &mut len,
+        &mut key,
+        &mut child,
+        &mut next,
+        &mut val,
+        &mut label,
+    );
+    write_record(&len, &key, &child, &next, &val, &label, out);
 }
