@@ -13,16 +13,21 @@ ghost use Rattle.keys.specs.Operation.{put, remove, find, firstAtOrAbove, lastA
 ghost use Rattle.index_bytes.specs.Held.{recordSize, entriesIn, recordBytes};
 ghost use Rattle.wallathi_index.specs.Export.{outOf, Follows, Tells};
 
+pub const RECORD_BYTES: usize = 6658;
+
+// The lent bytes of an index.
+pub type Record = [u8; RECORD_BYTES];
+
 // How many bytes a record has.
 #[no_mangle]
 pub extern "C" fn wallathi_index_record_bytes() -> u64
     ensures { λ r. ⌜ r ≡ recordSize ⌝ }
 {
-    6658
+    RECORD_BYTES as u64
 }
 
 #[no_mangle]
-pub extern "C" fn wallathi_index_set_up(bytes: &mut [u8; 6658]) -> u32
+pub extern "C" fn wallathi_index_set_up(bytes: &mut Record) -> u32
     ensures { λ r. ⌜ (r ≡ 0) × ((now (bytes .exit) ≡ recordBytes []) × (entriesIn (now (bytes .exit)) ≡ some [])) ⌝ }
 {
     index_bytes::empty(bytes);
@@ -30,14 +35,14 @@ pub extern "C" fn wallathi_index_set_up(bytes: &mut [u8; 6658]) -> u32
 }
 
 #[no_mangle]
-pub extern "C" fn wallathi_index_put(bytes: &mut [u8; 6658], key: &[u8], value: u32) -> u32
+pub extern "C" fn wallathi_index_put(bytes: &mut Record, key: &[u8], value: u32) -> u32
     ensures { λ r. ⌜ Follows (put (now (key .entry)) value) (entriesIn (now (bytes .entry))) (now (bytes .entry)) r (now (bytes .exit)) ⌝ }
 {
     code_of(index_bytes::put(bytes, key, value))
 }
 
 #[no_mangle]
-pub extern "C" fn wallathi_index_remove(bytes: &mut [u8; 6658], key: &[u8], count: &mut u64) -> u32
+pub extern "C" fn wallathi_index_remove(bytes: &mut Record, key: &[u8], count: &mut u64) -> u32
     ensures { λ r. ⌜ Follows (remove (now (key .entry))) (entriesIn (now (bytes .entry))) (now (bytes .entry)) r (now (bytes .exit)) × (now (count .exit) ≡ outOf (replyIn (remove (now (key .entry))) (entriesIn (now (bytes .entry)))) (now (count .entry))) ⌝ }
 {
     let a = index_bytes::remove(bytes, key);
@@ -46,7 +51,7 @@ pub extern "C" fn wallathi_index_remove(bytes: &mut [u8; 6658], key: &[u8], coun
 }
 
 #[no_mangle]
-pub extern "C" fn wallathi_index_find(bytes: &[u8; 6658], key: &[u8], value: &mut u64) -> u32
+pub extern "C" fn wallathi_index_find(bytes: &Record, key: &[u8], value: &mut u64) -> u32
     ensures { λ r. ⌜ (r ≡ codeOf (replyIn (find (now (key .entry))) (entriesIn (now (bytes .entry))))) × (now (value .exit) ≡ outOf (replyIn (find (now (key .entry))) (entriesIn (now (bytes .entry)))) (now (value .entry))) ⌝ }
 {
     let a = index_bytes::find(bytes, key);
@@ -57,7 +62,7 @@ pub extern "C" fn wallathi_index_find(bytes: &[u8; 6658], key: &[u8], value: &mu
 // The output has room for every key.
 #[no_mangle]
 pub extern "C" fn wallathi_index_first_at_or_above(
-    bytes: &[u8; 6658],
+    bytes: &Record,
     key: &[u8],
     output: &mut [u8; 16],
     len: &mut u64,
@@ -75,7 +80,7 @@ pub extern "C" fn wallathi_index_first_at_or_above(
 
 #[no_mangle]
 pub extern "C" fn wallathi_index_last_at_or_below(
-    bytes: &[u8; 6658],
+    bytes: &Record,
     key: &[u8],
     output: &mut [u8; 16],
     len: &mut u64,
