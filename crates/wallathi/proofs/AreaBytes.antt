@@ -12,7 +12,7 @@ use Rattle.octets.proofs.Laws.{both-true, bytes-nil, bytes-cons, bytes-append, 
 use Rattle.id.specs.declared.Id.{Id}
 use Rattle.id.proofs.Laws.{bytes-id}
 use Rattle.groups.specs.Group.{Pending, Group, isName, areNames, isGroup}
-use Rattle.groups.specs.Bytes.{placeOf, pendingBytes, allPending, nameField, allNameFields, regionBytes, regionSize}
+use Rattle.groups.specs.Bytes.{placeOfName, pendingBytes, allPending, nameField, allNameFields, regionBytes, regionSize}
 use Rattle.groups.specs.Area.{areGroups, isGroups, regions, areaBytes, areaSize}
 use Rattle.groups.proofs.Laws.{named, rules, first, sound}
 
@@ -25,12 +25,12 @@ names-bytes [] e = bytes-nil
 names-bytes (n ∷ ns) e = let p = both-true (isName n) (areNames ns) e in bytes-append (name-bytes n (p .0)) (names-bytes ns (p .1))
 
 -- a place among so many names
-place-most : (n : List ℕ) (ms : List (List ℕ)) → placeOf n ms ≤ length ms
-unfolding placeOf
+place-most : (n : List ℕ) (ms : List (List ℕ)) → placeOfName n ms ≤ length ms
+unfolding placeOfName
 place-most n [] = omega arith
 place-most n (m ∷ ms) = by (same n m) (place-most n ms)
   where
-    by : (t : Bool) → placeOf n ms ≤ length ms → pick t 0 (1 + placeOf n ms) ≤ suc (length ms)
+    by : (t : Bool) → placeOfName n ms ≤ length ms → pick t 0 (1 + placeOfName n ms) ≤ suc (length ms)
     by true h = omega arith
     by false h = omega arith
 
