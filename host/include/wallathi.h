@@ -48,7 +48,7 @@ extern "C" {
 /* The size of a state; wallathi_state_bytes answers the same. */
 #define WALLATHI_STATE_BYTES 64434
 /* A call needs at most this much stack; host/stack.c measures it. */
-#define WALLATHI_STACK_BYTES 49152
+#define WALLATHI_STACK_BYTES 40960
 /* A store has as many slots as fit its length, 64 at most. */
 #define WALLATHI_SLOT_BYTES 4096
 #define WALLATHI_MOST_SLOTS 64
