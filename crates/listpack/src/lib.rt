@@ -27,7 +27,6 @@ pub use size::element_size;
 pub use size::integer_size;
 pub use strict::Leading;
 pub use strict::is_small;
-pub use strict::names_end;
 pub use strict::read_number;
 pub use strict::strings_end;
 pub use write::put_end;

@@ -7,13 +7,11 @@ ghost use lib.ListN.{length, getD};
 ghost use Rattle.listpack.specs.Read.{readElement, readWide};
 ghost use Rattle.listpack.specs.AtPlace.{longSize, stringSize, endAfter, leadingOf, isSmall};
 ghost use Rattle.listpack.specs.Known.{patternIn};
-use crate::Element;
 use crate::form::HALF_SHORT;
 use crate::form::back_size;
 use crate::form::extend;
 use crate::read::integer_stands;
 use crate::read::is_text;
-use crate::read::read_element;
 use crate::read::text_stands;
 use crate::read::wide_value;
 
@@ -216,7 +214,7 @@ fn string_size(t: &[u8]) -> usize
     long_string_size(t, b)
 }
 
-// The place after n strings, and 0 where one of them is none.
+// The place after n strings, and 0 where one of them is none. Two walks call it, so it stands by itself, with its place in a register.
 pub fn strings_end(s: &[u8], from: usize, n: usize) -> usize
     requires { ⌜ from ≤ length (now s) ⌝ }
     ensures { λ r. ⌜ r ≡ endAfter n (now (s .entry)) from ⌝ }
@@ -225,43 +223,6 @@ pub fn strings_end(s: &[u8], from: usize, n: usize) -> usize
     let mut k = n;
     while 0 < k {
         let size = string_size(&s[at..]);
-        if size == 0 {
-            return 0;
-        }
-        at += size;
-        k -= 1;
-    }
-    at
-}
-
-fn string_of(e: Element) -> usize
-    ensures { λ r. ⌜ r ≡ stringSize e ⌝ }
-{
-    match e {
-        Element::Integer { pattern: _, size } => size,
-        Element::Text {
-            start: _,
-            len,
-            size,
-        } => {
-            if 1000 < len {
-                return 0;
-            }
-            size
-        }
-        Element::Bad => 0,
-    }
-}
-
-// The same for strings that are read once, as a master's names: apart, so that the compiler puts the other into the one walk that calls it.
-pub fn names_end(s: &[u8], from: usize, n: usize) -> usize
-    requires { ⌜ from ≤ length (now s) ⌝ }
-    ensures { λ r. ⌜ r ≡ endAfter n (now (s .entry)) from ⌝ }
-{
-    let mut at = from;
-    let mut k = n;
-    while 0 < k {
-        let size = string_of(read_element(&s[at..]));
         if size == 0 {
             return 0;
         }
