@@ -1,10 +1,10 @@
 -- What the functions answer, in terms of the group that a region holds. Assumes nothing.
 use mathlib.Core.Path.{_≡_}
-use mathlib.Core.Bool.{true}
+use mathlib.Core.Bool.{Bool, true}
 use mathlib.Core.List.{List, [], _∷_}
 use mathlib.Core.Option.{Option, some, none}
 use Prim.Native.Nat.{ℕ, _+_}
-use Rattle.octets.specs.Pick.{pick}
+use Rattle.octets.specs.Pick.{pick, both}
 use Rattle.octets.specs.Compare.{orderOf}
 use Rattle.octets.specs.declared.Order.{Order}
 use Rattle.octets.specs.declared.Order.the-variants.{Less, Equal, Greater}
@@ -21,7 +21,7 @@ use Rattle.groups.specs.Group.{Pending, Group, isAmong, isGroup}
 use Rattle.groups.specs.Bytes.{placeOfName, regionBytes}
 use Rattle.groups.specs.Parse.{groupIn}
 use Rattle.groups.specs.Step.{withName, findPending}
-use Rattle.id.specs.Id.{sameId}
+use Rattle.id.specs.Id.{isId, below, atMost, sameId}
 
 -- a sound region has the bytes of the group that is read of it, and that keeps the rules
 pub record SoundRegion (s : List ℕ) : Type 0 where
@@ -63,3 +63,12 @@ entryGiven consumer Nothing = none
 unfoldable pub withConsumer : List ℕ → Group → Group
 withConsumer consumer g =
     record { name = g .name; delivered = g .delivered; consumers = withName consumer (g .consumers); pending = g .pending }
+
+-- what a batch is: rising IDs above i, each at most the last ID
+unfoldable pub idsAbove : Id → List Id → Bool
+idsAbove i [] = true
+idsAbove i (j ∷ js) = both (both (isId j) (below i j)) (idsAbove j js)
+
+unfoldable pub idsUpTo : Id → List Id → Bool
+idsUpTo last [] = true
+idsUpTo last (j ∷ js) = both (atMost j last) (idsUpTo last js)

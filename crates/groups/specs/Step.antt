@@ -64,6 +64,11 @@ deliver consumer now i g =
       pending = putPending (record { id = i; consumer = consumer; time = now; count = 1 }) (g .pending);
     }
 
+-- batch reading (02, CR 1): IDs delivered one after the other
+unfoldable pub deliverAll : List ℕ → ℕ → List Id → Group → Group
+deliverAll consumer now [] g = g
+deliverAll consumer now (i ∷ is) g = deliverAll consumer now is (deliver consumer now i g)
+
 -- acknowledge removes a pending entry
 unfoldable pub acknowledge : Id → Group → Group
 acknowledge i g =

@@ -1,14 +1,14 @@
 -- What a change answers and leaves, in terms of the group that a region holds. Assumes nothing.
 use mathlib.Core.Bool.{Bool, false, not}
-use mathlib.Core.List.{List, _∷_, _++_}
+use mathlib.Core.List.{List, [], _∷_, _++_}
 use mathlib.Core.Option.{Option, some, none}
-use Prim.Native.Nat.{ℕ, suc}
+use Prim.Native.Nat.{ℕ, zero, suc}
 use lib.Dec.{leb}
 use lib.ListN.{length, take, drop}
 use Rattle.octets.specs.Pick.{pick, both}
 use Rattle.octets.specs.Bytes.{le}
 use Rattle.id.specs.declared.Id.{Id}
-use Rattle.id.specs.Bytes.{idBytes}
+use Rattle.id.specs.Bytes.{idBytes, idFrom}
 use Rattle.groups.specs.Group.{Pending, Group, mostPending}
 use Rattle.groups.specs.Step.{idle, withoutName, findPending, claim, lacksConsumer}
 
@@ -32,6 +32,11 @@ rowOf i place time count = idBytes i ++ (place ∷ (le 8 time ++ le 2 count))
 unfoldable pub refusalToDeliver : List ℕ → Group → Option ℕ
 refusalToDeliver consumer g =
     pick (lacksConsumer consumer g) (some 12) (pick (leb mostPending (length (g .pending))) (some 13) none)
+
+-- the IDs of a batch, 16 bytes each, as they lie one after the other
+unfoldable pub idsIn : ℕ → List ℕ → List Id
+idsIn zero s = []
+idsIn (suc k) s = idFrom (take 16 s) ∷ idsIn k (drop 16 s)
 
 -- a refusal leaves the bytes as they were
 abbrev pub unlessRefused : Option ℕ → List ℕ → List ℕ → List ℕ
