@@ -9,6 +9,7 @@
 --   Listed     the groups by rising name: the place of one, one put in or taken out
 --   Finding    the group that is found, put back, taken out; the rules with a later last ID (groups-later)
 --   Steps      each step: its name, where it changes nothing, the rules of all groups (deliver-groups ..)
+--   Batches    IDs delivered one after the other (deliverAll): the group's rules, its name, the rules of all groups
 --   Names, Fields, Entries, Parts, Turns    names and entries in a region and in a body, written and read
 --   Pendings, Consumers, Spots, Searched    sorted lists: one put in, taken out, found
 pub use Rattle.groups.proofs.Regions.{length-region, region-name, region-delivered, region-count, region-number, region-entries, group-of-region, is-region, Tested, tested, region-parse, RegionRead, region-bytes}
@@ -31,3 +32,4 @@ pub use Rattle.groups.proofs.Areas.{parse-free, parse-used, regions-par
 pub use Rattle.groups.proofs.Listed.{length-names, StandsAt, stands-at, Missing, missing-at, find-unknown, put-kept, new-kept, without-kept, new-is-group, new-up-to}
 pub use Rattle.groups.proofs.Finding.{groups-greatest, groups-later, found-kept, FoundNamed, found-named, put-found-same, find-put, find-put-other, find-without-other}
 pub use Rattle.groups.proofs.Steps.{deliver-name, acknowledge-name, claim-name, drop-name, acknowledge-missing, drop-unknown, count-unknown, found-is-group, found-up-to, deliver-groups, acknowledge-groups, claim-groups, drop-groups, create-groups, destroy-groups}
+pub use Rattle.groups.proofs.Batches.{lacks-delivered, Turn, deliver-turn, deliver-all-name, deliver-all-join, deliver-all-up-to, deliver-all-kept, deliver-all-length, deliver-all-groups}

@@ -21,3 +21,4 @@ mod Areas
 mod Listed
 mod Finding
 mod Steps
+mod Batches

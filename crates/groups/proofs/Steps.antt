@@ -80,7 +80,7 @@ module _ (last : Id) (gs : List Group) (e : isGroups last gs ≡ true) where
     pub found-up-to : pendingUpTo last (g .pending) ≡ true
     found-up-to = found-kept last n gs g (sound last gs e .groups) f .up-to
 
-    put-step : (h : Group) → h .name ≡ g .name → isGroup h ≡ true → pendingUpTo last (h .pending) ≡ true → isGroups last (putGroup h gs) ≡ true
+    pub put-step : (h : Group) → h .name ≡ g .name → isGroup h ≡ true → pendingUpTo last (h .pending) ≡ true → isGroups last (putGroup h gs) ≡ true
     put-step h m k u =
         let x = found-named n g gs f in
         put-kept last h gs e k u (ap (λ (a : List ℕ). isAmong a (namesOf gs)) (m ∙ x .name-is) ∙ x .among)
