@@ -8,6 +8,7 @@ use native.Mathlib.Omega.{arith}
 use lib.Dec.{leb}
 use lib.ListN.{length, getD, take, drop, length-append, length-drop}
 use lib.Seq.{split-at, length-take-le}
+use Rattle.octets.specs.Pick.{pick}
 use Rattle.octets.specs.Bytes.{le}
 use Rattle.octets.specs.Place.{put, spliced}
 use Rattle.id.specs.declared.Id.{Id}
@@ -19,7 +20,7 @@ use Rattle.groups.specs.Step.{idle, findPending, acknowledge, lacksConsumer}
 use Rattle.groups.specs.Answer.{SoundRegion, placeOfId, heldAs, heldIn}
 use Rattle.groups.proofs.Laws.{Rules, stands}
 use Rattle.groups_change.specs.Change.{withPending, withoutAt, refusalToDeliver, refusalToClaim, claimMoves}
-use borrow.Author.Tests.{le-leb, lt-leb}
+use borrow.Author.Tests.{le-leb, lt-leb, leb-false}
 use Rattle.groups_change.proofs.Moves.{nobody}
 use Rattle.groups_change.proofs.Shapes.{shape, region-shape, sound-rules, sound-short, sound-shape, shape-number, shape-remove}
 
@@ -113,6 +114,17 @@ module _ (c : List ℕ) (g : Group) where
     pub deliver-done : n < 256 → refusalToDeliver c g ≡ none
     unfolding refusalToDeliver
     deliver-done h = rw (e, lt-leb 256 (length (g .pending)) (omega arith))
+
+free-case : (a b : Bool) → pick {A = Option ℕ} a (some 12) (pick b (some 13) none) ≡ none → (a ≡ false) × (b ≡ false)
+free-case true b e = absurd (let z : _≡_ {A = ℕ} 0 1 = cc in omega arith)
+free-case false true e = absurd (let z : _≡_ {A = ℕ} 0 1 = cc in omega arith)
+free-case false false e = (refl, refl)
+
+pub deliver-free : (c : List ℕ) (g : Group) → refusalToDeliver c g ≡ none → (lacksConsumer c g ≡ false) × (length (g .pending) < 256)
+unfolding refusalToDeliver
+deliver-free c g e =
+    let q = free-case (lacksConsumer c g) (leb 256 (length (g .pending))) e in
+    (q .0, leb-false 256 (length (g .pending)) (q .1))
 
 -- what claim answers
 module _ (c : List ℕ) (least-idle : ℕ) (i : Id) (now : ℕ) (g : Group) where

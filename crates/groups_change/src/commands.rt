@@ -31,10 +31,10 @@ use groups::NamePlace;
 use groups::PendingEntry;
 use id::Id;
 
-// The ID, above the last delivered one, becomes last delivered and pending for the consumer.
-pub fn deliver(region: &mut [u8], consumer: &[u8], time: u64, id: Id) -> Delivery
-    requires { ⌜ SoundRegion (now region) × (1 ≤ length (now consumer)) × (length (now consumer) ≤ longestName) × (below (groupIn (now region) .delivered) id ≡ true) ⌝ }
-    ensures { λ r. ⌜ (deliveryRefusal r ≡ refusalToDeliver (now (consumer .entry)) (groupIn (now (region .entry)))) × (now (region .exit) ≡ unlessRefused (deliveryRefusal r) (now (region .entry)) (regionBytes (step.deliver (now (consumer .entry)) time id (groupIn (now (region .entry)))))) ⌝ }
+// 12, a consumer would be made and 16 exist; 13, 256 pending.
+pub fn check_delivery(region: &[u8], consumer: &[u8]) -> Delivery
+    requires { ⌜ SoundRegion (now region) ⌝ }
+    ensures { λ r. ⌜ deliveryRefusal r ≡ refusalToDeliver (now (consumer .entry)) (groupIn (now (region .entry))) ⌝ }
 {
     if lacks_consumer(region, consumer) {
         return Delivery::Refused(12);
@@ -43,6 +43,19 @@ pub fn deliver(region: &mut [u8], consumer: &[u8], time: u64, id: Id) -> Deliver
     if MOST_PENDING <= n {
         return Delivery::Refused(13);
     }
+    Delivery::Done
+}
+
+// The ID, above the last delivered one, becomes last delivered and pending for the consumer.
+pub fn deliver(region: &mut [u8], consumer: &[u8], time: u64, id: Id) -> Delivery
+    requires { ⌜ SoundRegion (now region) × (1 ≤ length (now consumer)) × (length (now consumer) ≤ longestName) × (below (groupIn (now region) .delivered) id ≡ true) ⌝ }
+    ensures { λ r. ⌜ (deliveryRefusal r ≡ refusalToDeliver (now (consumer .entry)) (groupIn (now (region .entry)))) × (now (region .exit) ≡ unlessRefused (deliveryRefusal r) (now (region .entry)) (regionBytes (step.deliver (now (consumer .entry)) time id (groupIn (now (region .entry)))))) ⌝ }
+{
+    match check_delivery(region, consumer) {
+        Delivery::Refused(n) => return Delivery::Refused(n),
+        Delivery::Done => {}
+    }
+    let n = groups::pending_count(region);
     let place = make_consumer(region, consumer);
     append_entry(region, n, id, place, time);
     Delivery::Done

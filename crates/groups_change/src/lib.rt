@@ -7,6 +7,7 @@ mod entries;
 mod pieces;
 
 pub use commands::acknowledge;
+pub use commands::check_delivery;
 pub use commands::claim;
 pub use commands::deliver;
 pub use commands::drop_consumer;
