@@ -9,7 +9,7 @@ use lib.ListN.{length, length-append}
 use Rattle.octets.specs.Pick.{both}
 use Rattle.octets.proofs.Laws.{both-true}
 use Rattle.id.specs.declared.Id.{Id}
-use Rattle.id.specs.Id.{isId, below, atMost}
+use Rattle.id.specs.Id.{Fits64, isId, below, atMost}
 use Rattle.id.proofs.Laws.{id-fits}
 use Rattle.groups.specs.Group.{Group, isName, pendingUpTo, isGroup}
 use Rattle.groups.specs.Area.{isGroups}
@@ -26,6 +26,14 @@ pub lacks-delivered : (c : List ℕ) (now : ℕ) (i : Id) (g : Group) → lacksC
 unfolding lacksConsumer deliver
 lacks-delivered c now i g = rw (among-new c (g .consumers))
 
+-- the first of a batch, and the others
+pub above-first : (d i : Id) (is : List Id) → idsAbove d (i ∷ is) ≡ true → Fits64 i × (below d i ≡ true) × (idsAbove i is ≡ true)
+unfolding idsAbove
+above-first d i is a =
+    let q = both-true (both (isId i) (below d i)) (idsAbove i is) a in
+    let x = both-true (isId i) (below d i) (q .0) in
+    (id-fits i (x .0), x .1, q .1)
+
 -- what one delivery leaves, where others follow
 pub record Turn (c : List ℕ) (is : List Id) (g h : Group) : Type 0 where
   pub kept : isGroup h ≡ true
@@ -36,14 +44,13 @@ pub record Turn (c : List ℕ) (is : List Id) (g h : Group) : Type 0 where
 module _ (c : List ℕ) (now : ℕ) where
   pub deliver-turn : (i : Id) (is : List Id) (g : Group) → isGroup g ≡ true → isName c ≡ true → now < 2 ^ 64 → lacksConsumer c g ≡ false
       → idsAbove (g .delivered) (i ∷ is) ≡ true → length (g .pending) < 256 → Turn c is g (deliver c now i g)
-  unfolding deliver idsAbove
+  unfolding deliver
   deliver-turn i is g e h t k a l =
-      let q = both-true (both (isId i) (below (g .delivered) i)) (idsAbove i is) a in
-      let x = both-true (isId i) (below (g .delivered) i) (q .0) in
+      let x = above-first (g .delivered) i is a in
       record {
-        kept = deliver-kept c now i g e h t (id-fits i (x .0)) (x .1) k l;
+        kept = deliver-kept c now i g e h t (x .0) (x .1) k l;
         known = lacks-delivered c now i g;
-        above = q .1;
+        above = x .2;
         count = ap length (put-last _ (g .delivered) (x .1) (g .pending) (rules g e .up-to)) ∙ length-append (g .pending) _;
       }
 

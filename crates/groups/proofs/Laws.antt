@@ -32,4 +32,4 @@ pub use Rattle.groups.proofs.Areas.{parse-free, parse-used, regions-par
 pub use Rattle.groups.proofs.Listed.{length-names, StandsAt, stands-at, Missing, missing-at, find-unknown, put-kept, new-kept, without-kept, new-is-group, new-up-to}
 pub use Rattle.groups.proofs.Finding.{groups-greatest, groups-later, found-kept, FoundNamed, found-named, put-found-same, find-put, find-put-other, find-without-other}
 pub use Rattle.groups.proofs.Steps.{deliver-name, acknowledge-name, claim-name, drop-name, acknowledge-missing, drop-unknown, count-unknown, found-is-group, found-up-to, deliver-groups, acknowledge-groups, claim-groups, drop-groups, create-groups, destroy-groups}
-pub use Rattle.groups.proofs.Batches.{lacks-delivered, Turn, deliver-turn, deliver-all-name, deliver-all-join, deliver-all-up-to, deliver-all-kept, deliver-all-length, deliver-all-groups}
+pub use Rattle.groups.proofs.Batches.{lacks-delivered, above-first, Turn, deliver-turn, deliver-all-name, deliver-all-join, deliver-all-up-to, deliver-all-kept, deliver-all-length, deliver-all-groups}
