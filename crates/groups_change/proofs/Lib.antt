@@ -6,3 +6,4 @@ mod Changes
 mod Members
 mod Gathered
 mod Dropped
+mod Batches

@@ -27,6 +27,10 @@ use Rattle.groups_change.specs.Change.{withoutConsumer, rowOf}
 use Rattle.groups_change.proofs.Moves.{place-up, place-down, entries-moved}
 use Rattle.groups_change.proofs.Shapes.{shape, region-shape, sound-rules, sound-short, sound-shape, shape-delivered, shape-count, shape-insert, shape-cut, shape-number, shape-append, shape-replace, shape-moved}
 
+-- a region with an entry after m others, for the last delivered ID
+abbrev pub appended : List ℕ → ℕ → ℕ → Id → ℕ → List ℕ
+appended s m place i time = put (put (put s (308 + m * 27) (rowOf i place time 1)) 306 (le 2 (m + 1))) 17 (idBytes i)
+
 -- a name that is among the others differs from one that is not
 differs-case : (m c : List ℕ) (cs : List (List ℕ)) (t : Bool) → same m c ≡ t → isAmong m cs ≡ true → isAmong c cs ≡ false → t ≡ false
 differs-case m c cs false e a b = refl
@@ -202,7 +206,7 @@ module _ (s : List ℕ) (h : SoundRegion s) where
     row-is q place e f = ap (λ (k : ℕ). rowOf (q .id) k (q .time) (q .count)) (f ∙ ap (λ (n : List ℕ). placeOfName n ds) (sym e))
 
     pub delivered-entry : (n place time : ℕ) (i : Id) → n ≡ length ps → n < 256 → place ≡ placeOfName c ds → below (g .delivered) i ≡ true
-        → put (put (put (regionBytes (withConsumer c g)) (308 + n * 27) (rowOf i place time 1)) 306 (le 2 (n + 1))) 17 (idBytes i) ≡ regionBytes (deliver c time i g)
+        → appended (regionBytes (withConsumer c g)) n place i time ≡ regionBytes (deliver c time i g)
     unfolding deliver
     delivered-entry n place time i en room ep b =
         let q : Pending = record { id = i; consumer = c; time = time; count = 1 } in

@@ -1,17 +1,18 @@
 // The changes of a group that commands make.
 
 ghost use mathlib.Core.Path.{_≡_};
-ghost use mathlib.Core.Bool.{true};
-ghost use Prim.Native.Nat.{_≤_};
+ghost use mathlib.Core.Bool.{true, false};
+ghost use Prim.Native.Nat.{_+_, _*_, _≤_};
 ghost use lib.ListN.{length};
 ghost use Rattle.octets.specs.Pick.{pick};
 ghost use Rattle.id.specs.Id.{below};
-ghost use Rattle.groups.specs.Group.{longestName};
+ghost use Rattle.groups.specs.Group.{longestName, mostPending};
 ghost use Rattle.groups.specs.Bytes.{regionBytes};
 ghost use Rattle.groups.specs.Parse.{groupIn};
 ghost use Rattle.groups.specs.Step as step;
-ghost use Rattle.groups.specs.Answer.{SoundRegion};
-ghost use Rattle.groups_change.specs.Change.{refusalToDeliver, unlessRefused, foundCount, refusalToClaim, claimMoves, claimedAs};
+ghost use Rattle.groups.specs.Step.{lacksConsumer};
+ghost use Rattle.groups.specs.Answer.{SoundRegion, idsAbove};
+ghost use Rattle.groups_change.specs.Change.{refusalToDeliver, idsIn, unlessRefused, foundCount, refusalToClaim, claimMoves, claimedAs};
 ghost use Rattle.groups_change.specs.Number.{deliveryRefusal, claimedRefusal, isMoved};
 use crate::Claimed;
 use crate::Delivery;
@@ -59,6 +60,23 @@ pub fn deliver(region: &mut [u8], consumer: &[u8], time: u64, id: Id) -> Deliver
     let place = make_consumer(region, consumer);
     append_entry(region, n, id, place, time);
     Delivery::Done
+}
+
+// k IDs of 16 bytes, rising above the last delivered, become pending for the consumer one after the other.
+pub fn deliver_all(region: &mut [u8], consumer: &[u8], time: u64, ids: &[u8], k: usize)
+    requires { ⌜ SoundRegion (now region) × (1 ≤ length (now consumer)) × (length (now consumer) ≤ longestName) × (lacksConsumer (now consumer) (groupIn (now region)) ≡ false) × (length (groupIn (now region) .pending) + k ≤ mostPending) × (16 * k ≤ length (now ids)) × (idsAbove (groupIn (now region) .delivered) (idsIn k (now ids)) ≡ true) ⌝ }
+    ensures { λ _. ⌜ now (region .exit) ≡ regionBytes (step.deliverAll (now (consumer .entry)) time (idsIn k (now (ids .entry))) (groupIn (now (region .entry)))) ⌝ }
+{
+    if k == 0 {
+        return;
+    }
+    let n = groups::pending_count(region);
+    let place = make_consumer(region, consumer);
+    let mut j = 0;
+    while j < k {
+        append_entry(region, n + j, id::read_id(ids, 16 * j), place, time);
+        j += 1;
+    }
 }
 
 // The entry of an ID is taken out: 1, or 0 if it is not pending.

@@ -10,6 +10,7 @@ pub use commands::acknowledge;
 pub use commands::check_delivery;
 pub use commands::claim;
 pub use commands::deliver;
+pub use commands::deliver_all;
 pub use commands::drop_consumer;
 
 pub enum Delivery {

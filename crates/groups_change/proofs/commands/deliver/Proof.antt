@@ -3,19 +3,17 @@ use mathlib.Core.Path.{_≡_, refl, sym, ap, _∙_}
 use mathlib.Core.Bool.{true}
 use mathlib.Core.List.{List}
 use mathlib.Core.Option.{none}
-use Prim.Native.Nat.{ℕ, _+_, _*_}
+use Prim.Native.Nat.{ℕ}
 use borrow.Author.Needs.{needs}
 use native.Mathlib.Omega.{arith}
-use Rattle.octets.specs.Bytes.{Bytes, le}
-use Rattle.octets.specs.Place.{put}
-use Rattle.id.specs.Bytes.{idBytes}
+use Rattle.octets.specs.Bytes.{Bytes}
 use Rattle.groups.specs.Group.{isName}
 use Rattle.groups.specs.Parse.{groupIn}
 use Rattle.groups.proofs.Laws.{is-name, sound-tested}
-use Rattle.groups_change.specs.Change.{refusalToDeliver, rowOf}
+use Rattle.groups_change.specs.Change.{refusalToDeliver}
 use Rattle.groups_change.specs.Number.{deliveryRefusal}
 use Rattle.groups_change.proofs.Changes.{deliver-free}
-use Rattle.groups_change.proofs.Members.{delivered-entry}
+use Rattle.groups_change.proofs.Members.{appended, delivered-entry}
 use Rattle.groups_change.proofs.commands.deliver.Statement.{statement}
 use Rattle.groups_change.proofs.commands.deliver.Tie as tie
 
@@ -51,6 +49,6 @@ deliver-spec =
     let f = deliver-free (a .consumer .now) (groupIn (a .region .now)) (free (c .before .before .before .before .before .before .before .before .before .before)) in (
       sym (free (c .before .before .before .before .before .before .before .before .before .before)),
       c .before .before .append-entry .ensures
-          ∙ ap (λ (l : List ℕ). put (put (put l (308 + n .result * 27) (rowOf (a .id) (m .result) (a .time) 1)) 306 (le 2 (n .result + 1))) 17 (idBytes (a .id))) (m .ensures .2)
+          ∙ ap (λ (l : List ℕ). appended l (n .result) (m .result) (a .id) (a .time)) (m .ensures .2)
           ∙ delivered-entry (a .region .now) (x .pre .0) (a .consumer .now) (name (c .before .before .before .before .before .before .before .before .before .before .before .before .before .before)) (f .0) (n .result) (m .result) (a .time) (a .id) (n .ensures .0) (omega (arith, f .1, n .ensures .0)) (m .ensures .0) (x .pre .3),
     )))
