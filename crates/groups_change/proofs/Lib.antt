@@ -1,3 +1,5 @@
+-- What other crates cite is in Laws, and nothing else.
+pub mod Laws
 mod Lists
 mod Moves
 mod Shapes
