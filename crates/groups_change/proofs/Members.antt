@@ -1,4 +1,4 @@
--- A sound region with a consumer put in or taken out, and with an entry delivered or claimed. Assumes nothing.
+-- A sound region with a consumer put in or taken out, and with an entry claimed. Assumes nothing.
 use mathlib.Core.Path.{_≡_, refl, sym, ap, ap₂, _∙_}
 use mathlib.Core.Bool.{Bool, true, false}
 use mathlib.Core.List.{List, [], _∷_, _++_}
@@ -8,28 +8,22 @@ use native.Mathlib.Omega.{arith}
 use lib.ListN.{length, getD, take, drop, set, length-append, length-drop, take-append-drop}
 use lib.Seq.{split-at, length-take-le, getD-at}
 use Rattle.octets.specs.Pick.{pick, both}
-use Rattle.octets.specs.Bytes.{le}
 use Rattle.octets.specs.Place.{put, spliced}
 use Rattle.octets.specs.Compare.{same}
 use Rattle.octets.proofs.Laws.{both-true, same-true, never, both-of}
 use Rattle.id.specs.declared.Id.{Id}
-use Rattle.id.specs.Id.{least, below}
-use Rattle.id.specs.Bytes.{idBytes}
+use Rattle.id.specs.Id.{least}
 use Rattle.groups.specs.declared.Spot.the-variants.{New}
 use Rattle.groups.specs.Group.{Pending, Group, isName, areNames, isAmong, isPending, arePending}
 use Rattle.groups.specs.Bytes.{placeOfName, pendingBytes, allPending, nameField, regionBytes}
 use Rattle.groups.specs.Parse.{groupIn}
-use Rattle.groups.specs.Step.{withName, withoutName, findPending, putPending, pendingOf, deliver, claim, lacksConsumer}
+use Rattle.groups.specs.Step.{withName, withoutName, findPending, putPending, pendingOf, claim, lacksConsumer}
 use Rattle.groups.specs.Answer.{SoundRegion, spotFrom, placeOfId, withConsumer}
-use Rattle.groups.proofs.Laws.{Rules, rules-with, named, same-swap, empty-before, placed, place-getD, among-getD, above-with, with-known, without-cut, allOf, all-more, entries-all, entry, put-last, put-found, stands, new-spot}
+use Rattle.groups.proofs.Laws.{Rules, rules-with, named, same-swap, empty-before, placed, place-getD, among-getD, above-with, with-known, without-cut, allOf, all-more, entries-all, entry, put-found, stands, new-spot}
 use Rattle.groups_change.specs.Places.{movedPlace, placesMoved}
 use Rattle.groups_change.specs.Change.{withoutConsumer, rowOf}
 use Rattle.groups_change.proofs.Moves.{place-up, place-down, entries-moved}
-use Rattle.groups_change.proofs.Shapes.{shape, region-shape, sound-rules, sound-short, sound-shape, shape-delivered, shape-count, shape-insert, shape-cut, shape-number, shape-append, shape-replace, shape-moved}
-
--- a region with an entry after m others, for the last delivered ID
-abbrev pub appended : List ℕ → ℕ → ℕ → Id → ℕ → List ℕ
-appended s m place i time = put (put (put s (308 + m * 27) (rowOf i place time 1)) 306 (le 2 (m + 1))) 17 (idBytes i)
+use Rattle.groups_change.proofs.Shapes.{shape, region-shape, sound-rules, sound-short, sound-shape, shape-count, shape-insert, shape-cut, shape-replace, shape-moved}
 
 -- a name that is among the others differs from one that is not
 differs-case : (m c : List ℕ) (cs : List (List ℕ)) (t : Bool) → same m c ≡ t → isAmong m cs ≡ true → isAmong c cs ≡ false → t ≡ false
@@ -189,43 +183,9 @@ module _ (s : List ℕ) (h : SoundRegion s) where
     q-rules : Rules (withConsumer c g)
     q-rules = rules-with c g r name fits
 
-    names : areNames ds ≡ true
-    unfolding withConsumer
-    names = q-rules .names
-
-    few : length ds ≤ 16
-    unfolding withConsumer
-    few = q-rules .few
-
-    made-shape : regionBytes (withConsumer c g) ≡ shape (g .name) (g .delivered) (length ds) ds (length ps) ds ps
-    unfolding withConsumer
-    made-shape = region-shape (withConsumer c g)
-
-    row-is : (q : Pending) (place : ℕ) → q .consumer ≡ c → place ≡ placeOfName c ds → rowOf (q .id) place (q .time) (q .count) ≡ pendingBytes ds q
-    unfolding pendingBytes
-    row-is q place e f = ap (λ (k : ℕ). rowOf (q .id) k (q .time) (q .count)) (f ∙ ap (λ (n : List ℕ). placeOfName n ds) (sym e))
-
-    pub delivered-entry : (n place time : ℕ) (i : Id) → n ≡ length ps → n < 256 → place ≡ placeOfName c ds → below (g .delivered) i ≡ true
-        → appended (regionBytes (withConsumer c g)) n place i time ≡ regionBytes (deliver c time i g)
-    unfolding deliver
-    delivered-entry n place time i en room ep b =
-        let q : Pending = record { id = i; consumer = c; time = time; count = 1 } in
-        let put-in : putPending q ps ≡ ps ++ (q ∷ []) = put-last q (g .delivered) b ps (r .up-to) in
-        let at : 308 + n * 27 ≡ 308 + length ps * 27 = omega arith in
-        let count : n + 1 ≡ length (ps ++ (q ∷ [])) = omega (arith, length-append ps (q ∷ [])) in
-        let e1 : put (regionBytes (withConsumer c g)) (308 + n * 27) (rowOf i place time 1) ≡ shape (g .name) (g .delivered) (length ds) ds (length ps) ds (ps ++ (q ∷ [])) =
-        ap₂ (λ (l : List ℕ) (j : ℕ). put l j (rowOf i place time 1)) made-shape at
-        ∙ ap (put (shape (g .name) (g .delivered) (length ds) ds (length ps) ds ps) (308 + length ps * 27)) (row-is q place refl ep)
-        ∙ shape-append (g .name) (g .delivered) (length ds) short ds names few (length ps) ds ps q (omega arith) in
-        ap₂ (λ (l : List ℕ) (j : ℕ). put (put l 306 (le 2 j)) 17 (idBytes i)) e1 count
-        ∙ ap (λ (l : List ℕ). put l 17 (idBytes i)) (shape-number (g .name) (g .delivered) (length ds) short ds names few (length ps) (length (ps ++ (q ∷ []))) ds (ps ++ (q ∷ [])))
-        ∙ shape-delivered (g .name) (g .delivered) (length ds) short i ds (length (ps ++ (q ∷ []))) ds (ps ++ (q ∷ []))
-        ∙ ap (λ (l : List Pending). shape (g .name) i (length ds) ds (length l) ds l) (sym put-in)
-        ∙ sym (region-shape (deliver c time i g))
-
     pub claimed-entry : (at place time count : ℕ) (i : Id) (p : Pending) → findPending i ps ≡ some p → at ≡ placeOfId i ps → place ≡ placeOfName c ds → count ≡ min (p .count + 1) 65535
         → put (regionBytes (withConsumer c g)) (308 + at * 27) (rowOf i place time count) ≡ regionBytes (claim c time p g)
-    unfolding claim
+    unfolding claim pendingBytes withConsumer
     claimed-entry at place time count i p f ea ep ec =
         let t = stands i ps p f in
         let k : ℕ = placeOfId i ps in
@@ -236,12 +196,11 @@ module _ (s : List ℕ) (h : SoundRegion s) where
         let put-in : putPending q ps ≡ xs ++ (q ∷ ys) = put-found i q (t .same-id) least ps p (r .above) f in
         let same-count : length ps ≡ length (xs ++ (q ∷ ys)) = ap length (t .split) ∙ omega (arith, length-append xs (p ∷ ys), length-append xs (q ∷ ys)) in
         let where-at : 308 + at * 27 ≡ 308 + length xs * 27 = omega arith in
-        let row : rowOf i place time count ≡ pendingBytes ds q =
-        ap₂ (λ (j : Id) (m : ℕ). rowOf j place time m) (sym (t .same-id)) ec ∙ row-is q place refl ep in
+        let row : rowOf i place time count ≡ pendingBytes ds q = λ x. rowOf (sym (t .same-id) x) (ep x) time (ec x) in
         ap₂ (λ (l : List ℕ) (j : ℕ). put l j (rowOf i place time count))
-        (made-shape ∙ ap (λ (l : List Pending). shape (g .name) (g .delivered) (length ds) ds (length ps) ds l) (t .split)) where-at
+        (region-shape (withConsumer c g) ∙ ap (λ (l : List Pending). shape (g .name) (g .delivered) (length ds) ds (length ps) ds l) (t .split)) where-at
         ∙ ap (put (shape (g .name) (g .delivered) (length ds) ds (length ps) ds (xs ++ (p ∷ ys))) (308 + length xs * 27)) row
-        ∙ shape-replace (g .name) (g .delivered) (length ds) short ds names few (length ps) ds xs p ys q
+        ∙ shape-replace (g .name) (g .delivered) (length ds) short ds (q-rules .names) (q-rules .few) (length ps) ds xs p ys q
         ∙ ap (λ (m : ℕ). shape (g .name) (g .delivered) (length ds) ds m ds (xs ++ (q ∷ ys))) same-count
         ∙ ap (λ (l : List Pending). shape (g .name) (g .delivered) (length ds) ds (length l) ds l) (sym put-in)
         ∙ sym (region-shape (claim c time p g))

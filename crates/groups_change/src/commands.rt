@@ -19,14 +19,12 @@ use crate::Delivery;
 use crate::consumers::lacks_consumer;
 use crate::consumers::make_consumer;
 use crate::consumers::remove_consumer;
-use crate::entries::append_entry;
+use crate::entries::note_delivered;
 use crate::entries::remove_entries;
 use crate::entries::remove_entry;
-use crate::pieces::entry_row;
+use crate::entries::write_row;
 use crate::pieces::grown;
 use crate::pieces::idle_for;
-use groups::ENTRIES_AT;
-use groups::ENTRY_BYTES;
 use groups::MOST_PENDING;
 use groups::NamePlace;
 use groups::PendingEntry;
@@ -58,7 +56,8 @@ pub fn deliver(region: &mut [u8], consumer: &[u8], time: u64, id: Id) -> Deliver
     }
     let n = groups::pending_count(region);
     let place = make_consumer(region, consumer);
-    append_entry(region, n, id, place, time);
+    write_row(region, n, id, place, time, 1);
+    note_delivered(region, n + 1, id);
     Delivery::Done
 }
 
@@ -74,9 +73,10 @@ pub fn deliver_all(region: &mut [u8], consumer: &[u8], time: u64, ids: &[u8], k:
     let place = make_consumer(region, consumer);
     let mut j = 0;
     while j < k {
-        append_entry(region, n + j, id::read_id(ids, 16 * j), place, time);
+        write_row(region, n + j, id::read_id(ids, 16 * j), place, time, 1);
         j += 1;
     }
+    note_delivered(region, n + k, id::read_id(ids, 16 * (k - 1)));
 }
 
 // The entry of an ID is taken out: 1, or 0 if it is not pending.
@@ -106,8 +106,7 @@ pub fn claim(region: &mut [u8], consumer: &[u8], least_idle: u64, id: Id, time: 
         return Claimed::Refused(12);
     }
     let place = make_consumer(region, consumer);
-    let row = entry_row(id, place, time, grown(count));
-    octets::copy_in(region, ENTRIES_AT + at * ENTRY_BYTES, &row);
+    write_row(region, at, id, place, time, grown(count));
     Claimed::Moved
 }
 

@@ -1,4 +1,4 @@
-// Entries of a region: one more, one less, those of a consumer taken out.
+// Entries of a region: one written, one less, those of a consumer taken out.
 
 ghost use mathlib.Core.Path.{_≡_};
 ghost use mathlib.Core.List.{[]};
@@ -14,22 +14,33 @@ ghost use Rattle.groups.specs.Step.{pendingOf, pendingOfOthers};
 ghost use Rattle.groups.specs.Answer.{SoundRegion};
 ghost use Rattle.groups_change.specs.Places.{rowKept, rowsOfOthers};
 ghost use Rattle.groups_change.specs.Change.{withPending, withoutAt, rowOf};
-use crate::pieces::entry_row;
+use groups::COUNT_AT;
 use groups::DELIVERED_AT;
 use groups::ENTRIES_AT;
 use groups::ENTRY_BYTES;
 use groups::PENDING_AT;
 use groups::PLACE_AT;
+use groups::TIME_AT;
 use id::Id;
 
-// An entry for the last delivered ID, after n others.
-pub fn append_entry(region: &mut [u8], n: usize, id: Id, place: usize, time: u64)
-    requires { ⌜ (length (now region) ≡ regionSize) × (n < mostPending) × (place < 256) ⌝ }
-    ensures { λ _. ⌜ now (region .exit) ≡ put (put (put (now (region .entry)) (entriesAt + n * entryBytes) (rowOf id place time 1)) pendingAt (le 2 (n + 1))) deliveredAt (idBytes id) ⌝ }
+// The row of an entry at a place.
+pub fn write_row(region: &mut [u8], i: usize, id: Id, place: usize, time: u64, count: u64)
+    requires { ⌜ (length (now region) ≡ regionSize) × (i < mostPending) × (place < 256) ⌝ }
+    ensures { λ _. ⌜ now (region .exit) ≡ put (now (region .entry)) (entriesAt + i * entryBytes) (rowOf id place time count) ⌝ }
 {
-    let row = entry_row(id, place, time, 1);
-    octets::copy_in(region, ENTRIES_AT + n * ENTRY_BYTES, &row);
-    octets::write_le(region, PENDING_AT, 2, (n + 1) as u64);
+    let at = ENTRIES_AT + i * ENTRY_BYTES;
+    id::write_id(region, at, id);
+    region[at + PLACE_AT] = place as u8;
+    octets::write_le(region, at + TIME_AT, 8, time);
+    octets::write_le(region, at + COUNT_AT, 2, count);
+}
+
+// The number of entries, and the last delivered ID.
+pub fn note_delivered(region: &mut [u8], n: usize, id: Id)
+    requires { ⌜ (length (now region) ≡ regionSize) × (n ≤ mostPending) ⌝ }
+    ensures { λ _. ⌜ now (region .exit) ≡ put (put (now (region .entry)) pendingAt (le 2 n)) deliveredAt (idBytes id) ⌝ }
+{
+    octets::write_le(region, PENDING_AT, 2, n as u64);
     id::write_id(region, DELIVERED_AT, id);
 }
 

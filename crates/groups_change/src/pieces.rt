@@ -1,4 +1,4 @@
-// Pieces of a region: a name's field, an entry's row, the places of consumers in the rows.
+// Pieces of a region: a name's field, the places of consumers in the rows.
 
 ghost use mathlib.Core.Path.{_≡_};
 ghost use mathlib.Core.List.{_++_};
@@ -8,13 +8,9 @@ ghost use Rattle.groups.specs.Group.{longestName, mostCount};
 ghost use Rattle.groups.specs.Bytes.{nameField, entriesAt, entryBytes};
 ghost use Rattle.groups.specs.Step.{idle};
 ghost use Rattle.groups_change.specs.Places.{movedPlace, placesMoved};
-ghost use Rattle.groups_change.specs.Change.{rowOf};
-use groups::COUNT_AT;
 use groups::ENTRIES_AT;
 use groups::ENTRY_BYTES;
 use groups::PLACE_AT;
-use groups::TIME_AT;
-use id::Id;
 
 // The greatest delivery count, mostCount of specs/Group of the crate groups.
 const MOST_COUNT: u64 = 65535;
@@ -26,18 +22,6 @@ pub fn name_field(name: &[u8]) -> [u8; 17]
     let mut b = [0u8; 17];
     b[0] = name.len() as u8;
     octets::copy_in(&mut b, 1, name);
-    b
-}
-
-pub fn entry_row(id: Id, place: usize, time: u64, count: u64) -> [u8; 27]
-    requires { ⌜ place < 256 ⌝ }
-    ensures { λ r. ⌜ r ≡ rowOf id place time count ⌝ }
-{
-    let mut b = [0u8; 27];
-    id::write_id(&mut b, 0, id);
-    b[PLACE_AT] = place as u8;
-    octets::write_le(&mut b, TIME_AT, 8, time);
-    octets::write_le(&mut b, COUNT_AT, 2, count);
     b
 }
 

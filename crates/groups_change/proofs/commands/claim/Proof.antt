@@ -1,5 +1,5 @@
 -- `claim` meets its contract, by the law of each answer. Assumes nothing.
-use mathlib.Core.Path.{_≡_, refl, sym, ap, ap₂, _∙_}
+use mathlib.Core.Path.{_≡_, refl, sym, ap, _∙_}
 use mathlib.Core.Bool.{true, false}
 use mathlib.Core.List.{List}
 use mathlib.Core.Option.{Option}
@@ -13,7 +13,7 @@ use Rattle.groups.specs.Bytes.{regionBytes}
 use Rattle.groups.specs.Parse.{groupIn}
 use Rattle.groups.specs.Step.{lacksConsumer}
 use Rattle.groups.proofs.Laws.{is-name, sound-tested, stands, rules}
-use Rattle.groups_change.specs.Change.{claimedAs}
+use Rattle.groups_change.specs.Change.{claimedAs, rowOf}
 use Rattle.groups_change.proofs.Changes.{HeldEntry, held-entry, held-missing, claim-missing, claim-busy, claim-12, claim-moved}
 use Rattle.groups_change.proofs.Members.{claimed-entry}
 use Rattle.groups_change.proofs.commands.claim.Statement.{statement}
@@ -74,26 +74,22 @@ claim-spec =
     (e .0, e .1, refl))
     (λ c κs. let x = c .before .before .before .before .before .before .before .before .before .before .before .before .before in (x .pre .0, x .pre .1, x .pre .2, room (c .before)))
     (λ c κs. search needs)
-    (λ c κs. search needs)
-    (λ c. omega (arith, within (c .before .before .before .before .before .before .before .before .before .before .before .before .before)))
-    (λ c. omega (arith, within (c .before .before .before .before .before .before .before .before .before .before .before .before .before)))
-    (λ c. search needs)
-    (λ c κs.
-    let x = c .before .before .before .before .before .before .before .before .before .before .before .before .before .before .before .before .before .before .before .before in
-    omega (arith, within (c .before .before .before .before .before .before .before .before .before .before .before .before .before .before), c .before .before .before .before .before .before .make-consumer .kept .0 ∙ sound-tested (x .args .region .now) (x .pre .0) .size))
+    (λ c κs. let x = c .before .before .before .before .before .before .before .before .before .before .before .before .before .before .before .before .before .before in (c .before .before .before .before .make-consumer .kept .0 ∙ sound-tested (x .args .region .now) (x .pre .0) .size, within (c .before .before .before .before .before .before .before .before .before .before .before .before), omega (arith, c .before .before .before .before .make-consumer .ensures .1)))
     (λ c. search needs)
     (λ c.
-    let x = c .before .before .before .before .before .before .before .before .before .before .before .before .before .before .before .before .before .before .before .before .before .before .before in
+    let x = c .before .before .before .before .before .before .before .before .before .before .before .before .before .before .before .before .before .before .before .before .before in
     let a = x .args in
     let g = groupIn (a .region .now) in
-    let f = found (c .before .before .before .before .before .before .before .before .before .before .before .before .before .before .before .before .before) in
-    let m = c .before .before .before .before .before .before .before .before .before .make-consumer in
-    let e = claim-moved (a .consumer .now) (a .least-idle) (a .id) (a .time) g (f .found) (f .is-found) (c .before .before .before .before .before .before .before .before .before .before .before .before .before .before .before .idle-for .result) (idle-is (c .before .before .before .before .before .before .before .before .before .before .before .before .before .before .before)) (c .before .before .before .before .before .before .before .before .before .before .before .before .before .before .if1 .left) (room (c .before .before .before .before .before .before .before .before .before .before .before)) in (
+    let at = c .before .before .before .before .before .before .before .before .before .before .before .before .before .before .before .at .given .0 .0 in
+    let f = found (c .before .before .before .before .before .before .before .before .before .before .before .before .before .before .before) in
+    let m = c .before .before .before .before .before .before .before .make-consumer in
+    let n = c .before .before .before .grown in
+    let e = claim-moved (a .consumer .now) (a .least-idle) (a .id) (a .time) g (f .found) (f .is-found) (c .before .before .before .before .before .before .before .before .before .before .before .before .before .idle-for .result) (idle-is (c .before .before .before .before .before .before .before .before .before .before .before .before .before)) (c .before .before .before .before .before .before .before .before .before .before .before .before .if1 .left) (room (c .before .before .before .before .before .before .before .before .before)) in (
       e .0,
       e .1,
-      c .before .before .copy-in .ensures
-          ∙ ap₂ (λ (l r : List ℕ). put l (308 + c .before .before .before .before .before .before .before .before .before .before .before .before .before .before .before .before .before .at .given .0 .0 * 27) r) (m .ensures .2) (c .before .before .before .before .before .entry-row .ensures)
-          ∙ claimed-entry (a .region .now) (x .pre .0) (a .consumer .now) (name (c .before .before .before .before .before .before .before .before .before .before .before .before .before .before .before .before .before .before .before .before .before)) (room (c .before .before .before .before .before .before .before .before .before .before .before)) (c .before .before .before .before .before .before .before .before .before .before .before .before .before .before .before .before .before .at .given .0 .0) (m .result) (a .time) (c .before .before .before .before .before .before .grown .result) (a .id) (f .found) (f .is-found) (f .is-place) (m .ensures .0)
-          (c .before .before .before .before .before .before .grown .ensures ∙ ap (λ (n : ℕ). min (n + 1) 65535) (sym (f .is-count)))
+      c .before .before .write-row .ensures
+          ∙ ap (λ (l : List ℕ). put l (308 + at * 27) (rowOf (a .id) (m .result) (a .time) (n .result))) (m .ensures .2)
+          ∙ claimed-entry (a .region .now) (x .pre .0) (a .consumer .now) (name (c .before .before .before .before .before .before .before .before .before .before .before .before .before .before .before .before .before .before .before)) (room (c .before .before .before .before .before .before .before .before .before)) at (m .result) (a .time) (n .result) (a .id) (f .found) (f .is-found) (f .is-place) (m .ensures .0)
+          (n .ensures ∙ ap (λ (k : ℕ). min (k + 1) 65535) (sym (f .is-count)))
           ∙ ap (λ (o : Option Pending). regionBytes (claimedAs (a .consumer .now) (a .time) g o)) (sym (f .is-found)),
     )))
