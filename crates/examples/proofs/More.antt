@@ -44,7 +44,7 @@ use Rattle.groups.specs.Step as Groups
 use Rattle.stream.specs.Cut as Cut
 use Rattle.stream.specs.Image.{nodeOf, nodesOf, freeZero, imageFrom}
 use Rattle.stream.specs.Ledger.{messagesAbove, isLedger}
-use Rattle.stream.specs.LedgerStep.{onSetUp, addAs, clockId, onTrim, onCreate}
+use Rattle.stream.specs.LedgerStep.{onSetUp, addAs, clockId, onTrim, onCreate, idsAfter, batch, idsBytes}
 use Rattle.stream.specs.Run.{run, answers}
 use Rattle.stream.specs.Step.{step}
 use Rattle.snapshot.specs.Bytes.{partsOf, contents, bodies, fileOf, snapshotOf}
@@ -163,6 +163,30 @@ asks =
     ∷ asked (Command.asks (Command.next least)) (Command.given (idOf 5 0))
     ∷ []
 
+-- batch reading (02, CR 1)
+abbrev many : List ℕ → ℕ → ℕ → Command.Command
+many consumer n room = Command.inGroup g (Command.groupReadMany consumer 7 n room)
+
+pub batches : List Asked
+batches =
+    asked Command.setUp Command.done
+    ∷ asked (Command.add (idOf 1 0) (slipOf a one)) (Command.given (idOf 1 0))
+    ∷ asked (Command.add (idOf 2 0) (slipOf a one)) (Command.given (idOf 2 0))
+    ∷ asked (Command.add (idOf 3 0) (slipOf a one)) (Command.given (idOf 3 0))
+    ∷ asked (many c 1 15) (Command.refused 8)
+    ∷ asked (many c 1 16) (Command.refused 9)
+    ∷ asked (Command.createGroup g least) Command.done
+    ∷ asked (many c 257 4112) (Command.refused 3)
+    ∷ asked (many [] 1 15) (Command.refused 3)
+    ∷ asked (many c 0 0) (Command.written [])
+    ∷ asked (Command.inGroup g (Command.dropConsumer c)) (Command.counted 0)
+    ∷ asked (Command.delete (idOf 2 0)) (Command.counted 1)
+    ∷ asked (many c 256 4096) (Command.written (idBytes (idOf 1 0) ++ idBytes (idOf 3 0)))
+    ∷ asked (many c 1 16) (Command.written [])
+    ∷ asked (Command.inGroup g (Command.groupRead c 7)) Command.nothing
+    ∷ asked (Command.inGroup g (Command.dropConsumer c)) (Command.counted 2)
+    ∷ []
+
 -- n pairs of a with a long value
 pub wide : ℕ → List Pair
 wide zero = []
@@ -247,11 +271,11 @@ pub backlog : ℕ → ℕ → List Pending
 backlog zero seq = []
 backlog (suc n) seq = record { id = idOf 1 seq; consumer = 99 ∷ []; time = 0; count = 1 } ∷ backlog n (seq + 1)
 
--- the group g with so many of them, and a message above its last delivered
+-- the group g with so many of them, and two messages above its last delivered
 abbrev behind : ℕ → Cut.Model
 behind n =
-    Cut.modelOf (Cut.nodeAt 0 (live (message 2 0 a one) ∷ []) ∷ [])
-    (withGroups (withLast emptyLedger (idOf 2 0))
+    Cut.modelOf (Cut.nodeAt 0 (live (message 2 0 a one) ∷ live (message 3 0 a one) ∷ []) ∷ [])
+    (withGroups (withLast emptyLedger (idOf 3 0))
     (record { name = 103 ∷ []; delivered = idOf 1 n; consumers = (99 ∷ []) ∷ []; pending = backlog n 1 } ∷ []))
 
 -- n nodes of a message each
@@ -293,6 +317,9 @@ pub record Computed : Type 0 where
   -- 256 pending
   pub pending255 : codes 1 (onStream (Command.inGroup g (Command.groupRead c 7)) ∷ []) (behind 255) ≡ 0 ∷ []
   pub pending256 : codes 1 (onStream (Command.inGroup g (Command.groupRead c 7)) ∷ []) (behind 256) ≡ 13 ∷ []
+  pub batched : answersAll 1 (map (λ (x : Asked). x .command) batches) none ≡ map (λ (x : Asked). x .answer) batches
+  pub batch255 : answersAll 1 (onStream (many c 2 32) ∷ []) (some (behind 255)) ≡ Command.written (idBytes (idOf 2 0)) ∷ []
+  pub batch256 : answersAll 1 (onStream (many c 0 0) ∷ onStream (many c 2 32) ∷ []) (some (behind 256)) ≡ Command.written [] ∷ Command.refused 13 ∷ []
   -- a fresh cut of 64 nodes, and of 65
   pub nodes64 : codes 64 (save 0 ∷ []) (filled 64) ≡ 8 ∷ []
   pub nodes65 : codes 64 (save 0 ∷ []) (filled 65) ≡ 15 ∷ []
@@ -306,7 +333,7 @@ pub record Computed : Type 0 where
       ∷ Indexed.found (Index.entry a 2) ∷ Indexed.removed 1 ∷ Indexed.removed 0 ∷ Indexed.nothing ∷ []
 
 pub computed : Computed
-unfolding half halves halfNodes backlog Index.firstFrom Index.insert Index.lastUpTo Index.lookup Index.without Indexed.putTo Indexed.removeFrom Indexed.replies aged asks refusals series table wide le leValue be beFrom beValue allZero same orderOf area put spliced takeBytes idBytes idFrom differenceOf rebuiltOf idOrder followingOf digitsAfter positiveOf unsignedOf negativeOf signedOf patternOf digitsOf naturalText textOf itemOf integerBody textHead backLength encodeItem element textSize elementSize Listpack.elements Listpack.header Listpack.listpack backAt integerStands asInteger closeInteger textStands asText closeText tagWidth readWide readBy readElement parse parseMany parseListpack fits narrow extend areStrings arePairs slipPairs slip cutString parsePairs parseSlip masterStrings pairStrings entryStrings entriesStrings nodeStrings nodeBytes nodeSize slotOf isMessage sameStrings liveIn liveCount deletedCount readNumber readExactly readStrings readValues readPairs readEntry readEntries parseStrings parseNode parseSlot risingFrom areMessages isNode areCounts hasRoom NodeStep.append NodeStep.takes NodeStep.fitsAlone NodeStep.markDeleted NodeStep.markOldest NodeStep.findMessage NodeStep.firstFrom NodeStep.withoutMessage NodeStep.valueOf areGroups isGroups regions areaBytes parseRegions parseArea placeOfName pendingBytes allPending allNames bodyBytes allNameFields regionBytes areNames namesAbove risingNames isAmong pendingAbove pendingUpTo isPending arePending isGroup nameIn isField namesIn areFields entryId pendingIn isEntry allPendingIn areEntries deliveredIn groupIn namesPass entriesPass isRegion parseRegion takeName takeNames parseBody Groups.withName Groups.withoutName Groups.findPending Groups.putPending Groups.withoutPending Groups.pendingOf Groups.pendingOfOthers Groups.firstAbove Groups.deliver Groups.acknowledge Groups.claim Groups.nextPending Groups.dropConsumer Groups.findGroup Groups.putGroup Groups.withoutGroup Cut.entriesOf Cut.isTaken Cut.areNodes allUpTo Cut.isModel Cut.freeFrom Cut.lowestFree Cut.goesToHighest Cut.appendToHighest Cut.addTo Cut.addMessage Cut.lacksSlot Cut.freed Cut.markInNodes Cut.deleteMessage Cut.markOldestInNodes Cut.deleteOldest Cut.addAll Cut.freshCut nodeOf nodesOf freeZero imageFrom messagesAbove isLedger onSetUp addAs clockId onTrim onCreate Groups.lacksConsumer NodeStep.firstAfter run answers step partsOf contents bodies fileOf snapshotOf saveReply loads takeParts parseFile readNode readParts parseSnapshot
+unfolding batches idsAfter batch idsBytes Groups.deliverAll half halves halfNodes backlog Index.firstFrom Index.insert Index.lastUpTo Index.lookup Index.without Indexed.putTo Indexed.removeFrom Indexed.replies aged asks refusals series table wide le leValue be beFrom beValue allZero same orderOf area put spliced takeBytes idBytes idFrom differenceOf rebuiltOf idOrder followingOf digitsAfter positiveOf unsignedOf negativeOf signedOf patternOf digitsOf naturalText textOf itemOf integerBody textHead backLength encodeItem element textSize elementSize Listpack.elements Listpack.header Listpack.listpack backAt integerStands asInteger closeInteger textStands asText closeText tagWidth readWide readBy readElement parse parseMany parseListpack fits narrow extend areStrings arePairs slipPairs slip cutString parsePairs parseSlip masterStrings pairStrings entryStrings entriesStrings nodeStrings nodeBytes nodeSize slotOf isMessage sameStrings liveIn liveCount deletedCount readNumber readExactly readStrings readValues readPairs readEntry readEntries parseStrings parseNode parseSlot risingFrom areMessages isNode areCounts hasRoom NodeStep.append NodeStep.takes NodeStep.fitsAlone NodeStep.markDeleted NodeStep.markOldest NodeStep.findMessage NodeStep.firstFrom NodeStep.withoutMessage NodeStep.valueOf areGroups isGroups regions areaBytes parseRegions parseArea placeOfName pendingBytes allPending allNames bodyBytes allNameFields regionBytes areNames namesAbove risingNames isAmong pendingAbove pendingUpTo isPending arePending isGroup nameIn isField namesIn areFields entryId pendingIn isEntry allPendingIn areEntries deliveredIn groupIn namesPass entriesPass isRegion parseRegion takeName takeNames parseBody Groups.withName Groups.withoutName Groups.findPending Groups.putPending Groups.withoutPending Groups.pendingOf Groups.pendingOfOthers Groups.firstAbove Groups.deliver Groups.acknowledge Groups.claim Groups.nextPending Groups.dropConsumer Groups.findGroup Groups.putGroup Groups.withoutGroup Cut.entriesOf Cut.isTaken Cut.areNodes allUpTo Cut.isModel Cut.freeFrom Cut.lowestFree Cut.goesToHighest Cut.appendToHighest Cut.addTo Cut.addMessage Cut.lacksSlot Cut.freed Cut.markInNodes Cut.deleteMessage Cut.markOldestInNodes Cut.deleteOldest Cut.addAll Cut.freshCut nodeOf nodesOf freeZero imageFrom messagesAbove isLedger onSetUp addAs clockId onTrim onCreate Groups.lacksConsumer NodeStep.firstAfter run answers step partsOf contents bodies fileOf snapshotOf saveReply loads takeParts parseFile readNode readParts parseSnapshot
 computed =
     record {
       written = refl;
@@ -325,6 +352,9 @@ computed =
       tempted = refl;
       pending255 = refl;
       pending256 = refl;
+      batched = refl;
+      batch255 = refl;
+      batch256 = refl;
       nodes64 = refl;
       nodes65 = refl;
       loaded2 = refl;

@@ -8,6 +8,7 @@ use Rattle.wallathi.proofs.Damaged as damages
 use Rattle.wallathi.proofs.Possible as possible
 use Rattle.wallathi.proofs.Refused as refusals
 use Rattle.wallathi.proofs.Absent as lacking
+use Rattle.wallathi.proofs.Batches as batches
 
 pub demands : Demands
 demands =
@@ -21,6 +22,8 @@ demands =
       load-exact = loading.loads-exactly;
       one-consumer = consumers.has-one-consumer;
       absent-field = lacking.absent-field;
+      batch-exact = batches.batch-exact;
+      batch-in-list = batches.batch-in-list;
       refused-keeps = refusals.refused-keeps;
       damaged = λ cs i k ss m e h. damages.damaged m e h;
       fresh-run = possible.fresh-run;

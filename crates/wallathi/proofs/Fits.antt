@@ -1,7 +1,9 @@
 -- A written answer fits the command's output, and only a command with an output is answered so. Assumes nothing.
+use mathlib.Core.Path.{_≡_, refl}
 use mathlib.Core.List.{List}
 use mathlib.Core.Option.{Option, some, none}
-use Prim.Native.Nat.{ℕ, _≤_}
+use Prim.Native.Nat.{ℕ, _*_, _≤_}
+use native.Mathlib.Omega.{arith}
 use lib.Dec.{leb, eqb}
 use lib.ListN.{length}
 use borrow.Author.Tests.{leb-true}
@@ -20,7 +22,8 @@ use Rattle.stream.specs.Ledger.{Ledger}
 use Rattle.stream.specs.Cut.{freshCut}
 use Rattle.stream.specs.Command as Stream
 use Rattle.stream.specs.Command.{Answer, refused, done, given, counted, written, entry, moved, nothing, absent, notMoved}
-use Rattle.stream.specs.LedgerStep.{LedgerStep, Beside, GroupStep, refuses, leaves, onSetUp, addAs, onAdd, clockId, addFollowing, onAddByClock, onDelete, onTrim, idReply, writes, readReply, valueReply, fieldReply, replyTo, onCreate, onDestroy, delivers, acknowledges, claims, pendingReply, onGroup, nameRefusal, requestRefusal, inLedger, ruled, ledgerStep}
+use Rattle.stream.specs.LedgerStep.{LedgerStep, Beside, GroupStep, refuses, leaves, onSetUp, addAs, onAdd, clockId, addFollowing, onAddByClock, onDelete, onTrim, idReply, writes, readReply, valueReply, fieldReply, replyTo, onCreate, onDestroy, delivers, batch, acknowledges, claims, pendingReply, onGroup, nameRefusal, batchRefusal, argumentRefusal, requestRefusal, inLedger, ruled, ledgerStep}
+use Rattle.stream.proofs.Laws.{second-kept, length-ids, length-batch, batch-room, many-by}
 use Rattle.snapshot.specs.Bytes.{snapshotOf}
 use Rattle.snapshot.specs.Command.{Command, onStream, save, load, saveReply}
 
@@ -43,6 +46,14 @@ roomIn (Stream.next i) = 0
 roomIn (Stream.read i room) = room
 roomIn (Stream.field i name room) = room
 
+abbrev pub roomInGroup : Stream.GroupCommand → ℕ
+roomInGroup (Stream.groupRead consumer time) = 0
+roomInGroup (Stream.groupReadMany consumer time n room) = room
+roomInGroup (Stream.acknowledge i) = 0
+roomInGroup (Stream.claim consumer least i time) = 0
+roomInGroup (Stream.nextPending consumer i) = 0
+roomInGroup (Stream.dropConsumer consumer) = 0
+
 abbrev pub roomBy : Stream.Command → ℕ
 roomBy Stream.setUp = 0
 roomBy (Stream.add i s) = 0
@@ -52,7 +63,7 @@ roomBy (Stream.trim k) = 0
 roomBy (Stream.createGroup name start) = 0
 roomBy (Stream.destroyGroup name) = 0
 roomBy (Stream.asks q) = roomIn q
-roomBy (Stream.inGroup name c) = 0
+roomBy (Stream.inGroup name c) = roomInGroup c
 
 abbrev pub roomOf : Command → ℕ
 roomOf (onStream c) = roomBy c
@@ -92,39 +103,43 @@ query-fits (Stream.field i name room) l = pick-by (Fits room) (leb (length name)
     by none = tt
     by (some m) = value (valueOf name (m .pairs))
 
-abbrev FitsGroup : GroupStep → Type 0
-FitsGroup s = Fits 0 (s .answer)
+abbrev FitsGroup : ℕ → GroupStep → Type 0
+FitsGroup room s = Fits room (s .answer)
 
-group-fits : (c : Stream.GroupCommand) (ms : List Message) (g : Group) → FitsGroup (onGroup c ms g)
-group-fits (Stream.groupRead consumer time) ms g = by (firstAfter (g .delivered) ms)
-  where
-    by : (o : Option Message) → FitsGroup (delivers consumer time o g)
-    by none = tt
-    by (some m) =
-        pick-by FitsGroup (Groups.lacksConsumer consumer g) (leaves (refused 12) g) _ (λ e. tt)
-        (λ e. pick-by FitsGroup (leb mostPending (length (g .pending))) (leaves (refused 13) g) _ (λ f. tt) (λ f. tt))
-group-fits (Stream.acknowledge i) ms g = by (Groups.findPending i (g .pending))
+read-fits : (room : ℕ) (consumer : List ℕ) (time : ℕ) (o : Option Message) (g : Group) → FitsGroup room (delivers consumer time o g)
+read-fits room consumer time none g = tt
+read-fits room consumer time (some m) g =
+    pick-by (FitsGroup room) (Groups.lacksConsumer consumer g) (leaves (refused 12) g) _ (λ e. tt)
+    (λ e. pick-by (FitsGroup room) (leb mostPending (length (g .pending))) (leaves (refused 13) g) _ (λ f. tt) (λ f. tt))
+
+group-fits : (c : Stream.GroupCommand) (ms : List Message) (g : Group) → argumentRefusal c ≡ none → FitsGroup (roomInGroup c) (onGroup c ms g)
+group-fits (Stream.groupRead consumer time) ms g r = read-fits 0 consumer time (firstAfter (g .delivered) ms) g
+group-fits (Stream.groupReadMany consumer time n room) ms g r =
+    let h : 16 * n ≤ room = batch-room n room (second-kept (nameRefusal consumer) (batchRefusal n room) r) .1 in
+    many-by (FitsGroup room) consumer time n room ms g (read-fits room consumer time (firstAfter (g .delivered) ms) g)
+    (λ e. omega (arith, length-ids (batch n ms g), length-batch n ms g))
+group-fits (Stream.acknowledge i) ms g r = by (Groups.findPending i (g .pending))
   where
     by : (o : Option Pending) → Fits 0 (acknowledges i o g .answer)
     by none = tt
     by (some p) = tt
-group-fits (Stream.claim consumer least i time) ms g = by (Groups.findPending i (g .pending))
+group-fits (Stream.claim consumer least i time) ms g r = by (Groups.findPending i (g .pending))
   where
-    by : (o : Option Pending) → FitsGroup (claims consumer least time o g)
+    by : (o : Option Pending) → FitsGroup 0 (claims consumer least time o g)
     by none = tt
     by (some p) =
-        pick-by FitsGroup (leb least (Groups.idle time (p .time))) _ (leaves notMoved g)
-        (λ e. pick-by FitsGroup (Groups.lacksConsumer consumer g) (leaves (refused 12) g) _ (λ f. tt) (λ f. tt)) (λ e. tt)
-group-fits (Stream.nextPending consumer i) ms g = by (Groups.nextPending consumer i g)
+        pick-by (FitsGroup 0) (leb least (Groups.idle time (p .time))) _ (leaves notMoved g)
+        (λ e. pick-by (FitsGroup 0) (Groups.lacksConsumer consumer g) (leaves (refused 12) g) _ (λ f. tt) (λ f. tt)) (λ e. tt)
+group-fits (Stream.nextPending consumer i) ms g r = by (Groups.nextPending consumer i g)
   where
     by : (o : Option Pending) → Fits 0 (pendingReply ms o)
     by none = tt
     by (some p) = tt
-group-fits (Stream.dropConsumer consumer) ms g = tt
+group-fits (Stream.dropConsumer consumer) ms g r = tt
 
-ruled-fits : (o : Option ℕ) (l : Ledger) (s : LedgerStep) → Fit s → Fit (ruled o l s)
-ruled-fits none l s h = h
-ruled-fits (some n) l s h = tt
+ruled-fits : (room : ℕ) (o : Option ℕ) (l : Ledger) (s : LedgerStep) → (o ≡ none → Fits room (s .answer)) → Fits room (ruled o l s .answer)
+ruled-fits room none l s h = h refl
+ruled-fits room (some n) l s h = tt
 
 pub stream-fits : (c : Stream.Command) (b : Beside) (l : Ledger) → Fits (roomBy c) (ledgerStep b c l .answer)
 unfolding onSetUp onTrim onCreate
@@ -149,18 +164,20 @@ stream-fits (Stream.delete i) b l = by (findMessage i (l .messages))
     by none = tt
     by (some m) = tt
 stream-fits (Stream.trim k) b l = tt
-stream-fits (Stream.createGroup name start) b l = ruled-fits (nameRefusal name) l (onCreate name start l) (pick-by Fit (isNone (Groups.findGroup name (l .groups))) _ (refuses l 10) (λ e. pick-by Fit (leb mostGroups (length (l .groups))) (refuses l 11) _ (λ f. tt) (λ f. tt)) (λ e. tt))
-stream-fits (Stream.destroyGroup name) b l = ruled-fits (nameRefusal name) l (onDestroy name (Groups.findGroup name (l .groups)) l) (by (Groups.findGroup name (l .groups)))
+stream-fits (Stream.createGroup name start) b l = ruled-fits 0 (nameRefusal name) l (onCreate name start l) (λ _. pick-by Fit (isNone (Groups.findGroup name (l .groups))) _ (refuses l 10) (λ e. pick-by Fit (leb mostGroups (length (l .groups))) (refuses l 11) _ (λ f. tt) (λ f. tt)) (λ e. tt))
+stream-fits (Stream.destroyGroup name) b l = ruled-fits 0 (nameRefusal name) l (onDestroy name (Groups.findGroup name (l .groups)) l) (λ _. by (Groups.findGroup name (l .groups)))
   where
     by : (o : Option Group) → Fit (onDestroy name o l)
     by none = tt
     by (some g) = tt
 stream-fits (Stream.asks q) b l = query-fits q l
-stream-fits (Stream.inGroup name c) b l = ruled-fits (requestRefusal name c) l (inLedger l c (Groups.findGroup name (l .groups))) (by (Groups.findGroup name (l .groups)))
+stream-fits (Stream.inGroup name c) b l =
+    ruled-fits (roomInGroup c) (requestRefusal name c) l (inLedger l c (Groups.findGroup name (l .groups)))
+    (λ r. by (Groups.findGroup name (l .groups)) (second-kept (nameRefusal name) (argumentRefusal c) r))
   where
-    by : (o : Option Group) → Fit (inLedger l c o)
-    by none = tt
-    by (some g) = group-fits c (l .messages) g
+    by : (o : Option Group) → argumentRefusal c ≡ none → Fits (roomInGroup c) (inLedger l c o .answer)
+    by none r = tt
+    by (some g) r = group-fits c (l .messages) g r
 
 pub save-fits : (room : ℕ) (l : Ledger) → Fits room (saveReply room l)
 unfolding saveReply

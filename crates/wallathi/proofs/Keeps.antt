@@ -9,31 +9,30 @@ use native.Mathlib.Omega.{arith}
 use lib.Dec.{leb}
 use lib.ListN.{length}
 use borrow.Author.Tests.{leb-true, leb-false}
-use Rattle.octets.specs.Pick.{pick, both}
 use Rattle.octets.specs.Maybe.{isNone}
 use Rattle.octets.specs.Bytes.{Bytes}
 use Rattle.octets.specs.Compare.{same}
-use Rattle.octets.proofs.Laws.{both-true, never, some-is, same-refl, same-true, pick-by}
+use Rattle.octets.proofs.Laws.{never, some-is, same-refl, same-true, pick-by}
 use Rattle.id.specs.declared.Id.{Id}
 use Rattle.id.specs.declared.Following.{Following}
 use Rattle.id.specs.declared.Following.the-variants.{Next, Exhausted}
-use Rattle.id.specs.Id.{Fits64, isId, least, below, atMost}
+use Rattle.id.specs.Id.{Fits64, least, below}
 use Rattle.id.proofs.Laws.{id-fits}
 use Rattle.slip.specs.Slip.{parseSlip}
-use Rattle.slip.specs.Pair.{arePairs}
-use Rattle.node.specs.Message.{Pair, Message, isMessage, message}
+use Rattle.node.specs.Message.{Pair, Message, message}
 use Rattle.node.specs.Step.{fitsAlone, findMessage, firstAfter, withoutMessage}
 use Rattle.groups.specs.Group.{Pending, Group, isName, mostPending}
 use Rattle.groups.specs.Area.{areaBytes, parseArea, isGroups, mostGroups}
 use Rattle.groups.specs.Step as Groups
-use Rattle.groups.proofs.Laws.{area-parse, put-found-same, deliver-groups, acknowledge-groups, claim-groups, drop-groups, create-groups, destroy-groups}
+use Rattle.groups.specs.Answer.{idsAbove, idsUpTo}
+use Rattle.groups.proofs.Laws.{area-parse, put-found-same, deliver-groups, acknowledge-groups, claim-groups, drop-groups, create-groups, destroy-groups, deliver-all-groups}
 use Rattle.stream.specs.Ledger.{withMessages, messagesAbove}
 use Rattle.stream.specs.Cut.{Node, Model, messagesOf, ledgerOf, isModel, addMessage, lacksSlot, deleteMessage, deleteOldest}
 use Rattle.stream.specs.Command as Stream
 use Rattle.stream.specs.Command.{Answer, refused, done, counted}
-use Rattle.stream.specs.LedgerStep.{GroupStep, leaves, clockId, onCreate, onGroup, onTrim, delivers, acknowledges, claims, nameRefusal, argumentRefusal, requestRefusal}
+use Rattle.stream.specs.LedgerStep.{GroupStep, leaves, clockId, onCreate, onGroup, onTrim, delivers, batch, acknowledges, claims, nameRefusal, batchRefusal, argumentRefusal, requestRefusal}
 use Rattle.stream.specs.Step.{Step, step}
-use Rattle.stream.proofs.Laws.{model-rules, model-ledger, ledger-rules, model-delete, model-trim, model-add, renoded, stepOf, regrouped, step-refused, step-stays, step-groups, step-goes, step-asks, name-kept, second-kept, step-unruled, step-no-group, step-in-group, Adds, adds-by-id, clock-above, add-no-slip, clock-no-slip, add-low, clock-exhausted, add-large, add-full, add-goes, delete-none, trim-none, messages-delete, messages-oldest, messages-add, delete-differs, trim-differs, add-differs}
+use Rattle.stream.proofs.Laws.{model-rules, model-ledger, ledger-rules, model-delete, model-trim, model-add, renoded, stepOf, regrouped, step-refused, step-stays, step-groups, step-goes, step-asks, name-kept, first-kept, second-kept, step-unruled, step-no-group, step-in-group, Adds, adds-by-id, clock-above, add-no-slip, clock-no-slip, add-low, clock-exhausted, add-large, add-full, add-goes, delete-none, trim-none, messages-delete, messages-oldest, messages-add, delete-differs, trim-differs, add-differs, first-facts, length-batch, batch-above, batch-up-to, many-by, consumer-known}
 use Rattle.snapshot.specs.Command.{isSetUp}
 use Rattle.wallathi.specs.Demands.{PassesGroup, PassesStream}
 
@@ -41,26 +40,6 @@ pub data Outcome (slots : ℕ) (s : Step) (m : Model) : Type 0 where
   stays : s .after ≡ m → Outcome slots s m
   groups-change : (gs : List Group) → s .after ≡ regrouped m gs → isGroups (m .last) gs ≡ true → (gs ≡ m .groups → ⊥) → Outcome slots s m
   nodes-change : isModel slots (s .after) ≡ true → (messagesOf (s .after .nodes) ≡ messagesOf (m .nodes) → ⊥) → Outcome slots s m
-
--- the first message above an ID, of a ledger's
-record FirstAfter (i last : Id) (x : Message) : Type 0 where
-  fits : Fits64 (x .id)
-  above : below i (x .id) ≡ true
-  up-to : atMost (x .id) last ≡ true
-
-first-facts : (i j last : Id) (ms : List Message) (x : Message) → messagesAbove j last ms ≡ true → firstAfter i ms ≡ some x → FirstAfter i last x
-unfolding messagesAbove firstAfter isMessage
-first-facts i j last [] x h e = absurd (let z : _≡_ {A = ℕ} 0 1 = cc in omega arith)
-first-facts i j last (m ∷ ms) x h e =
-    let p = both-true (both (below j (m .id)) (atMost (m .id) last)) _ h in
-    let q = both-true (both (isMessage m) (fitsAlone m)) (messagesAbove (m .id) last ms) (p .1) in
-    let k = both-true (isId (m .id)) (arePairs (m .pairs)) (both-true (isMessage m) (fitsAlone m) (q .0) .0) in
-    by (below i (m .id)) refl (id-fits (m .id) (k .0)) (both-true (below j (m .id)) (atMost (m .id) last) (p .0) .1) (first-facts i (m .id) last ms x (q .1)) e
-  where
-    by : (t : Bool) → below i (m .id) ≡ t → Fits64 (m .id) → atMost (m .id) last ≡ true → (firstAfter i ms ≡ some x → FirstAfter i last x)
-        → pick t (some m) (firstAfter i ms) ≡ some x → FirstAfter i last x
-    by true b f a r e = subst (FirstAfter i last) (some-is e) (record { fits = f; above = b; up-to = a })
-    by false b f a r e = r e
 
 module _ (slots : ℕ) (m : Model) (e : isModel slots m ≡ true) where
   after-step : (s t : Step) → s ≡ t → Outcome slots t m → Outcome slots s m
@@ -192,16 +171,42 @@ module _ (slots : ℕ) (m : Model) (e : isModel slots m ≡ true) where
     keeps-same : isGroups (m .last) (Groups.putGroup g (m .groups)) ≡ true
     keeps-same = ap (isGroups (m .last)) (put-found-same name g (m .last) (m .groups) groups-are f) ∙ groups-are
 
-    group-keeps : (c : Stream.GroupCommand) → PassesGroup c → argumentRefusal c ≡ none → Keeps (onGroup c (messagesOf (m .nodes)) g)
-    group-keeps (Stream.groupRead consumer time) t a = by (firstAfter (g .delivered) (messagesOf (m .nodes))) refl
+    messages-are : messagesAbove least (m .last) (messagesOf (m .nodes)) ≡ true
+    messages-are = ledger-rules (ledgerOf m) (model-ledger slots m e) .messages-are
+
+    read-keeps : (consumer : List ℕ) (time : ℕ) → time < 2 ^ 64 → nameRefusal consumer ≡ none → Keeps (delivers consumer time (firstAfter (g .delivered) (messagesOf (m .nodes))) g)
+    read-keeps consumer time t a = by (firstAfter (g .delivered) (messagesOf (m .nodes))) refl
       where
         by : (o : Option Message) → firstAfter (g .delivered) (messagesOf (m .nodes)) ≡ o → Keeps (delivers consumer time o g)
         by none p = keeps-same
         by (some x) p =
-            let y = first-facts (g .delivered) least (m .last) (messagesOf (m .nodes)) x (ledger-rules (ledgerOf m) (model-ledger slots m e) .messages-are) p in
+            let y = first-facts (g .delivered) least (m .last) (messagesOf (m .nodes)) x messages-are p in
             pick-by Keeps (Groups.lacksConsumer consumer g) (leaves (refused 12) g) _ (λ _. keeps-same)
             (λ l. pick-by Keeps (leb mostPending (length (g .pending))) (leaves (refused 13) g) _ (λ _. keeps-same)
             (λ n. deliver-groups (m .last) (m .groups) groups-are name g f consumer time (x .id) (name-kept consumer a) t (y .fits) (y .above) (y .up-to) l (leb-false mostPending (length (g .pending)) n)))
+
+    -- a batch, where no consumer is lacking if it has an ID
+    many-keeps : (consumer : List ℕ) (time n : ℕ) → time < 2 ^ 64 → nameRefusal consumer ≡ none
+        → (1 ≤ length (batch n (messagesOf (m .nodes)) g) → Groups.lacksConsumer consumer g ≡ false)
+        → isGroups (m .last) (Groups.putGroup (Groups.deliverAll consumer time (batch n (messagesOf (m .nodes)) g) g) (m .groups)) ≡ true
+    many-keeps consumer time n t a k = by (batch n (messagesOf (m .nodes)) g) refl
+      where
+        by : (is : List Id) → batch n (messagesOf (m .nodes)) g ≡ is → isGroups (m .last) (Groups.putGroup (Groups.deliverAll consumer time is g) (m .groups)) ≡ true
+        by [] p = unfold Groups.deliverAll in keeps-same
+        by (i ∷ is) p =
+            let z = length-batch n (messagesOf (m .nodes)) g in
+            let y : length (batch n (messagesOf (m .nodes)) g) ≡ length {A = Id} (i ∷ is) = ap length p in
+            deliver-all-groups (m .last) (m .groups) groups-are name g f consumer time (i ∷ is) (name-kept consumer a) t
+            (ap (idsAbove (g .delivered)) (sym p) ∙ batch-above n (messagesOf (m .nodes)) g least (m .last) messages-are)
+            (ap (idsUpTo (m .last)) (sym p) ∙ batch-up-to n (messagesOf (m .nodes)) g least (m .last) messages-are)
+            (k (omega arith)) (omega arith)
+
+    group-keeps : (c : Stream.GroupCommand) → PassesGroup c → argumentRefusal c ≡ none → Keeps (onGroup c (messagesOf (m .nodes)) g)
+    group-keeps (Stream.groupRead consumer time) t a = read-keeps consumer time t a
+    group-keeps (Stream.groupReadMany consumer time n room) t a =
+        let k : nameRefusal consumer ≡ none = first-kept (nameRefusal consumer) (batchRefusal n room) a in
+        many-by Keeps consumer time n room (messagesOf (m .nodes)) g (read-keeps consumer time t k)
+        (λ p. many-keeps consumer time n t k (consumer-known consumer time n (messagesOf (m .nodes)) g p))
     group-keeps (Stream.acknowledge i) t a = by (Groups.findPending i (g .pending))
       where
         by : (o : Option Pending) → Keeps (acknowledges i o g)

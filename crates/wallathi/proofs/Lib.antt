@@ -15,4 +15,7 @@ pub mod Possible
 pub mod Stays
 pub mod Refused
 pub mod Absent
+pub mod OneImage
+pub mod Joins
+pub mod Batches
 pub mod Demands

@@ -39,19 +39,19 @@ held-rules i m e =
     subst (λ (x : Model). isModel slots x ≡ true) (some-is e) k
 
 -- a store of so many slots that holds ledger and cut
-record Stands (slots : ℕ) (i : Lent) (k : Kept) : Type 0 where
-  slots-are : slotsOf i ≡ slots
-  holds : heldBy i ≡ some (modelBy k)
-  ledger-is : ledgerOf (modelBy k) ≡ k .ledger
+pub record Stands (slots : ℕ) (i : Lent) (k : Kept) : Type 0 where
+  pub slots-are : slotsOf i ≡ slots
+  pub holds : heldBy i ≡ some (modelBy k)
+  pub ledger-is : ledgerOf (modelBy k) ≡ k .ledger
 
 -- one call from there
-record Stepped (slots : ℕ) (c : Call) (k : Kept) (i : Lent) (s : Seen) (j : Lent) : Type 0 where
-  sees : s ≡ plainCall slots c k .answer
-  stands : Stands slots j (plainCall slots c k .after)
-  size-kept : length (j .store) ≡ length (i .store)
-  tail-kept : tailOf j ≡ tailOf i
+pub record Stepped (slots : ℕ) (c : Call) (k : Kept) (i : Lent) (s : Seen) (j : Lent) : Type 0 where
+  pub sees : s ≡ plainCall slots c k .answer
+  pub stands : Stands slots j (plainCall slots c k .after)
+  pub size-kept : length (j .store) ≡ length (i .store)
+  pub tail-kept : tailOf j ≡ tailOf i
 
-stepped : {slots : ℕ} {k : Kept} {i j : Lent} {s : Seen} (c : Call) → Meets c i s j → Stands slots i k → Stepped slots c k i s j
+pub stepped : {slots : ℕ} {k : Kept} {i j : Lent} {s : Seen} (c : Call) → Meets c i s j → Stands slots i k → Stepped slots c k i s j
 stepped {slots} {k} {i} {j} {s} c x h =
     let tell : Answer → Seen = tellTo (c .values) (c .output) in
     let d : Command = commandOf c in
@@ -76,13 +76,13 @@ stepped {slots} {k} {i} {j} {s} c x h =
     }
 
 -- a list of calls from there
-record Ran (slots : ℕ) (cs : List Call) (k : Kept) (i : Lent) (ss : List Seen) (j : Lent) : Type 0 where
-  sees : ss ≡ answers (plainCall slots) cs k
-  stands : Stands slots j (run (plainCall slots) cs k)
-  size-kept : length (j .store) ≡ length (i .store)
-  tail-kept : tailOf j ≡ tailOf i
+pub record Ran (slots : ℕ) (cs : List Call) (k : Kept) (i : Lent) (ss : List Seen) (j : Lent) : Type 0 where
+  pub sees : ss ≡ answers (plainCall slots) cs k
+  pub stands : Stands slots j (run (plainCall slots) cs k)
+  pub size-kept : length (j .store) ≡ length (i .store)
+  pub tail-kept : tailOf j ≡ tailOf i
 
-ran : {slots : ℕ} {cs : List Call} {k : Kept} {i j : Lent} {ss : List Seen} → Made cs i ss j → Stands slots i k → Ran slots cs k i ss j
+pub ran : {slots : ℕ} {cs : List Call} {k : Kept} {i j : Lent} {ss : List Seen} → Made cs i ss j → Stands slots i k → Ran slots cs k i ss j
 unfolding run answers
 ran made-none h = record { sees = refl; stands = h; size-kept = refl; tail-kept = refl }
 ran (made-more {c} {cs} {i} {j} {k} {s} {ss} m r) h =
@@ -115,7 +115,7 @@ begun i j s d e = by (eqb (slotsOf i) 0) (d .does)
         }
 
 -- what is left is bytes
-made-bytes : {cs : List Call} {i k : Lent} {ss : List Seen} → Made cs i ss k → AreBytes i → AreBytes k
+pub made-bytes : {cs : List Call} {i k : Lent} {ss : List Seen} → Made cs i ss k → AreBytes i → AreBytes k
 made-bytes made-none b = b
 made-bytes (made-more m r) b = made-bytes r (m .bytes)
 

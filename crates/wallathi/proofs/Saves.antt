@@ -23,7 +23,7 @@ use Rattle.wallathi.specs.Run.{Call, call, plain, Meets, Made}
 use Rattle.wallathi.specs.Demands.{keptAfter, ledgerBy, saveSeen, fileIn, SeenAt}
 use Rattle.wallathi.proofs.Runs.{held-rules, whole, at, made-length}
 
-put-first : (out bs : List ℕ) → put out 0 bs ≡ bs ++ drop (length bs) out
+pub put-first : (out bs : List ℕ) → put out 0 bs ≡ bs ++ drop (length bs) out
 unfolding put
 put-first out bs = let e : 0 + length bs ≡ length bs = omega arith in ap (λ (n : ℕ). bs ++ drop n out) e
 

@@ -23,6 +23,7 @@ use Rattle.stream.specs.Ledger.{Ledger, withGroups}
 use Rattle.stream.specs.Command as Stream
 use Rattle.stream.specs.Command.{refused, codeOf}
 use Rattle.stream.specs.LedgerStep.{LedgerStep, Beside, GroupStep, refuses, leaves, onSetUp, addAs, onAdd, clockId, addFollowing, onAddByClock, onDelete, onTrim, onCreate, onDestroy, delivers, acknowledges, claims, onGroup, inLedger, nameRefusal, requestRefusal, ruled, ledgerStep}
+use Rattle.stream.proofs.Laws.{many-by}
 
 -- 0 is no such number
 answered : {P : Type 0} → 1 ≤ 0 → P
@@ -32,14 +33,16 @@ answered h = absurd (omega arith)
 abbrev Leaves : Group → GroupStep → Type 0
 Leaves g s = 1 ≤ codeOf (s .answer) → s .after ≡ g
 
+read-stays : (consumer : List ℕ) (time : ℕ) (o : Option Message) (g : Group) → Leaves g (delivers consumer time o g)
+read-stays consumer time none g = λ _. refl
+read-stays consumer time (some x) g =
+    pick-by (Leaves g) (Groups.lacksConsumer consumer g) (leaves (refused 12) g) _ (λ _ _. refl)
+    (λ _. pick-by (Leaves g) (leb mostPending (length (g .pending))) (leaves (refused 13) g) _ (λ _ _. refl) (λ _ h. answered h))
+
 group-stays : (c : Stream.GroupCommand) (ms : List Message) (g : Group) → Leaves g (onGroup c ms g)
-group-stays (Stream.groupRead consumer time) ms g = by (firstAfter (g .delivered) ms)
-  where
-    by : (o : Option Message) → Leaves g (delivers consumer time o g)
-    by none = λ _. refl
-    by (some x) =
-        pick-by (Leaves g) (Groups.lacksConsumer consumer g) (leaves (refused 12) g) _ (λ _ _. refl)
-        (λ _. pick-by (Leaves g) (leb mostPending (length (g .pending))) (leaves (refused 13) g) _ (λ _ _. refl) (λ _ h. answered h))
+group-stays (Stream.groupRead consumer time) ms g = read-stays consumer time (firstAfter (g .delivered) ms) g
+group-stays (Stream.groupReadMany consumer time n room) ms g =
+    many-by (Leaves g) consumer time n room ms g (read-stays consumer time (firstAfter (g .delivered) ms) g) (λ _ h. answered h)
 group-stays (Stream.acknowledge i) ms g = by (Groups.findPending i (g .pending))
   where
     by : (o : Option Pending) → Leaves g (acknowledges i o g)

@@ -1,11 +1,11 @@
--- What is claimed of whole lists of calls (00, The order; 01, Snapshot, last paragraph), for every host that calls the exported
+-- What is claimed of whole lists of calls (00, The order; 01, Snapshot, last paragraph; 02), for every host that calls the exported
 -- functions one after the other on one store and its state: the record `Demands`, at the end. Before it stands what its words mean.
 -- proofs/Demands proves it. Assumes nothing.
 use mathlib.Core.Path.{_≡_}
 use mathlib.Core.Bool.{true, false}
 use mathlib.Core.List.{List, [], _∷_, _++_, List·Memᴰ}
 use mathlib.Core.Option.{Option, some, none, Option·map}
-use Prim.Native.Nat.{ℕ, _^_, _≤_, _<_}
+use Prim.Native.Nat.{ℕ, _-_, _*_, _^_, _≤_, _<_, min}
 use lib.Dec.{leb}
 use lib.ListN.{length, take, drop, getD}
 use Rattle.octets.specs.Pick.{pick}
@@ -14,11 +14,13 @@ use Rattle.id.specs.declared.Id.{Id}
 use Rattle.id.specs.Id.{Fits64}
 use Rattle.node.specs.Message.{Message}
 use Rattle.node.specs.Step.{findMessage, valueOf}
-use Rattle.groups.specs.Group.{Pending, Group, isAmong}
+use Rattle.groups.specs.Group.{Pending, Group, isAmong, mostPending}
+use Rattle.groups.specs.Step.{findGroup}
 use Rattle.stream.specs.Ledger.{Ledger, emptyLedger, isLedger}
 use Rattle.stream.specs.Cut.{Node, Model, modelOf, ledgerOf, isModel, freshCut}
 use Rattle.stream.specs.Command as Stream
-use Rattle.stream.specs.Command.{GroupCommand, groupRead, acknowledge, claim, nextPending, dropConsumer, setUp, add, addByClock, delete, trim, createGroup, destroyGroup, asks, inGroup, field, Answer}
+use Rattle.stream.specs.Command.{GroupCommand, groupRead, groupReadMany, acknowledge, claim, nextPending, dropConsumer, setUp, add, addByClock, delete, trim, createGroup, destroyGroup, asks, inGroup, field, Answer}
+use Rattle.stream.specs.LedgerStep.{idsAfter, idsBytes}
 use Rattle.stream.specs.Laid.{Laid}
 use Rattle.stream.specs.Run.{Turn, run, answers}
 use Rattle.stream.specs.Promise.{Lent, heldBy, slotsOf, tailOf}
@@ -147,9 +149,42 @@ abbrev pub twos : List Call → List Seen
 twos [] = []
 twos (c ∷ cs) = seen 2 (c .values) (c .output) ∷ twos cs
 
+-- 02, CR 1: the batch read of n IDs, its out-parameter holding len; and single reads in a row, as many as `olds`, which are any two
+-- numbers that the out-parameters of each held before
+abbrev pub readMany : List ℕ → List ℕ → ℕ → ℕ → ℕ → List ℕ → Call
+readMany name consumer time n len out = call (λ room. onStream (inGroup name (groupReadMany consumer time n room))) (len ∷ []) out
+
+abbrev pub singleReads : List ℕ → List ℕ → ℕ → List Id → List Call
+singleReads name consumer time [] = []
+singleReads name consumer time (o ∷ olds) =
+    plain (inGroup name (groupRead consumer time)) (o .ms ∷ (o .seq ∷ [])) ∷ singleReads name consumer time olds
+
+-- each is answered with an ID
+abbrev pub seenIds : List Id → List Seen
+seenIds [] = []
+seenIds (i ∷ is) = seen 0 (i .ms ∷ (i .seq ∷ [])) [] ∷ seenIds is
+
+-- a batch read that is accepted, on a store i that holds the ledger l: how many IDs, what is written, and that so many single reads
+-- on i instead answer these IDs and leave the same bytes
+pub record ReadsMany (name consumer : List ℕ) (time n : ℕ) (out : List ℕ) (l : Ledger) (i : Lent) (s : Seen) (j : Lent) : Type 0 where
+  pub group : Group
+  pub ids : List Id
+  pub found : findGroup name (l .groups) ≡ some group
+  pub smallest : length ids ≡ min n (min (length (idsAfter (group .delivered) (l .messages))) (mostPending - length (group .pending)))
+  pub sees : s ≡ seen 0 (16 * length ids ∷ []) (idsBytes ids ++ drop (16 * length ids) out)
+  pub singles : (olds : List Id) (ss : List Seen) (k : Lent) → length olds ≡ length ids → Made (singleReads name consumer time olds) i ss k
+      → (ss ≡ seenIds ids) × (k ≡ j)
+
+-- so many single reads in the place of a batch read in a list: its IDs, and what is then seen, the others' answers as they were
+pub record InPlace (out : List ℕ) (x : Seen) (first later ts : List Seen) : Type 0 where
+  pub ids : List Id
+  pub sees : x ≡ seen 0 (16 * length ids ∷ []) (idsBytes ids ++ drop (16 * length ids) out)
+  pub seen-are : ts ≡ first ++ (seenIds ids ++ later)
+
 -- arguments as C can pass them: IDs and times of 64 bits, bytes (of names and files this is known by what the commands test)
 abbrev pub PassesGroup : GroupCommand → Type 0
 PassesGroup (groupRead consumer time) = time < 2 ^ 64
+PassesGroup (groupReadMany consumer time n room) = time < 2 ^ 64
 PassesGroup (acknowledge i) = Unit {0}
 PassesGroup (claim consumer idle i time) = time < 2 ^ 64
 PassesGroup (nextPending consumer i) = Unit {0}
@@ -190,7 +225,7 @@ pub record FreshRun (cs : List Call) (i₀ : Lent) : Type 0 where
   pub code-is : told .code ≡ 0
   pub run-on : SomeRun cs begun
 
--- the claim: what was ordered (00), word for word, and that it is not said of nothing
+-- the claim: what was ordered (00) and requested (02), word for word, and that it is not said of nothing
 pub record Demands : Type 0 where
   -- "From a fresh store, every sequence of commands answers as the plain ledger does with its cut beside it, refusals included, and the
   -- stored listpacks hold that ledger by the published encoding"; "the store after it holds the ledger that document 01 works out from
@@ -227,6 +262,16 @@ pub record Demands : Type 0 where
   pub absent-field : (i j : Lent) (s : Seen) (id : Id) (name : List ℕ) (len : ℕ) (out : List ℕ) (l : Ledger) (x : Message)
       → Meets (call (λ n. onStream (asks (field id name n))) (len ∷ []) out) i s j → ledgerBy i ≡ some l → findMessage id (l .messages) ≡ some x
       → length name ≤ 1000 → valueOf name (x .pairs) ≡ none → (s ≡ seen 33 (len ∷ []) out) × (j ≡ i)
+  -- "It delivers the smallest of n, the live messages above last delivered, and the free pending entries, and equals that many single
+  -- reads in a row" (02, CR 1): on any store that holds a ledger, reached or handed in
+  pub batch-exact : (i j : Lent) (s : Seen) (name consumer : List ℕ) (time n len : ℕ) (out : List ℕ) (l : Ledger)
+      → Meets (readMany name consumer time n len out) i s j → ledgerBy i ≡ some l → s .code ≡ 0 → ReadsMany name consumer time n out l i s j
+  -- and anywhere in a list: with so many single reads in its place the other answers are the same, and so is what is held in the end
+  pub batch-in-list : (cs ds : List Call) (i j k l : Lent) (ss ts : List Seen) (i₀ j₀ : Lent) (s t x : Seen) (name consumer : List ℕ) (time n len : ℕ)
+      (out : List ℕ) (olds : List Id) → slotsOf i₀ ≡ slotsOf j₀ → Meets (plain setUp []) i₀ s i → s .code ≡ 0
+      → Made (cs ++ (readMany name consumer time n len out ∷ ds)) i ss k → Meets (plain setUp []) j₀ t j → t .code ≡ 0
+      → Made (cs ++ (singleReads name consumer time olds ++ ds)) j ts l → (p : SeenAt cs x ss) → x .code ≡ 0 → x .values ≡ 16 * length olds ∷ []
+      → InPlace out x (p .first) (p .later) ts × (heldBy k ≡ heldBy l)
   -- "Whatever document 01 refuses .. gets that document's number, and the store and the output keep all their bytes": whatever a call
   -- answers but 0, so none, nothing new, absent and not moved (32, 33, 34) too
   pub refused-keeps : (c : Call) (i j : Lent) (s : Seen) → Meets c i s j → 1 ≤ s .code → Refuses c i s j
