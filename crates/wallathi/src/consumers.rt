@@ -2,10 +2,11 @@
 
 ghost use mathlib.Core.List.{[], _∷_};
 ghost use Rattle.id.specs.Id.{idOf};
-ghost use Rattle.stream.specs.Command.{createGroup, destroyGroup, inGroup, groupRead, acknowledge, claim, nextPending, dropConsumer};
+ghost use Rattle.stream.specs.Command.{createGroup, destroyGroup, inGroup, groupRead, groupReadMany, acknowledge, claim, nextPending, dropConsumer};
 ghost use Rattle.stream.specs.Promise.{lent};
 ghost use Rattle.wallathi.specs.Export.{seen};
-ghost use Rattle.wallathi.specs.Run.{plain, Meets};
+ghost use Rattle.wallathi.specs.Run.{call, plain, Meets};
+ghost use Rattle.snapshot.specs.Command.{onStream};
 use crate::known::known;
 use crate::telling;
 use id::Id;
@@ -53,6 +54,25 @@ pub extern "C" fn wallathi_group_read(
     known(store);
     known(state);
     telling::tell_id(r, id_ms, id_seq)
+}
+
+#[no_mangle]
+pub extern "C" fn wallathi_group_read_many(
+    store: &[u8],
+    state: &mut State,
+    group: &[u8],
+    consumer: &[u8],
+    time: u64,
+    n: u64,
+    out: &mut [u8],
+    len: &mut u64,
+) -> u32
+    ensures { λ r. ⌜ Meets (call (λ room. onStream (inGroup (now (group .entry)) (groupReadMany (now (consumer .entry)) time n room))) (now (len .entry) ∷ []) (now (out .entry))) (lent (now (store .entry)) (now (state .entry))) (seen r (now (len .exit) ∷ []) (now (out .exit))) (lent (now (store .entry)) (now (state .exit))) ⌝ }
+{
+    let r = stream_batch::group_read_many(store, state, group, consumer, time, n, out);
+    known(store);
+    known(state);
+    telling::tell_number(r, len)
 }
 
 #[no_mangle]
