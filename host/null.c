@@ -7,7 +7,7 @@
 
 #include "wallathi.h"
 
-enum { STORE = 1, FIRST = 2, SECOND = 4, OUTPUT = 8, COMMANDS = 17 };
+enum { STORE = 1, FIRST = 2, SECOND = 4, OUTPUT = 8, ALL = 15, LOAD = 18, COMMANDS };
 
 struct slice {
     uint8_t *at;
@@ -43,6 +43,8 @@ static const unsigned taken[COMMANDS] = {
     STORE | FIRST | SECOND,   /* next pending */
     STORE | FIRST | SECOND,   /* drop consumer */
     STORE | OUTPUT,           /* save */
+    ALL,                      /* group read of a batch that the output holds */
+    ALL,                      /* the same of one message */
     STORE | FIRST,            /* load */
 };
 
@@ -67,6 +69,10 @@ static uint32_t call(int command, uint8_t *state, struct slice s, struct slice f
         return wallathi_next_pending(s.at, s.length, state, f.at, f.length, c.at, c.length, 0, 0, v, v + 1, v + 2, v + 3, v + 4);
     case 14: return wallathi_drop_consumer(s.at, s.length, state, f.at, f.length, c.at, c.length, v);
     case 15: return wallathi_save(s.at, s.length, state, o.at, o.length, v);
+    case 16:
+    case 17:
+        return wallathi_group_read_many(s.at, s.length, state, f.at, f.length, c.at, c.length, 1, command == 16 ? o.length / 32 : 1, o.at,
+                                        o.length, v);
     default: return wallathi_load(s.at, s.length, state, f.at, f.length);
     }
 }
@@ -91,7 +97,7 @@ static uint32_t call_without(int command, unsigned without, uint8_t *empty, stru
         first.length = sizeof slip;
     } else if (command == 7) {
         first.length = 0;
-    } else if (command == 16) {
+    } else if (command == LOAD) {
         first.at = file;
         first.length = (size_t)file_length;
     }
@@ -129,7 +135,7 @@ int main(void)
     ok &= wallathi_save(used.store, sizeof used.store, used.state, file, sizeof file, &file_length) == WALLATHI_OK;
     for (command = 0; command < COMMANDS; command++) {
         unsigned without;
-        for (without = 1; without < 16; without++) {
+        for (without = 1; without <= ALL; without++) {
             if ((without & taken[command]) != without)
                 continue;
             ok &= same(command, without, &fresh, &answered) & same(command, without, &used, &answered);

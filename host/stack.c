@@ -13,7 +13,7 @@
 
 #define PATTERN 0xB7
 #define STACK (1 << 20)
-#define COMMANDS 17
+#define COMMANDS 18
 #define KEY_BYTES 16
 
 /* Of the index in the state (docs/FORMAT.md). */
@@ -40,6 +40,7 @@ static uint32_t answer;
 static ucontext_t here, there;
 
 static const uint8_t *const group = (const uint8_t *)"group", *const consumer = (const uint8_t *)"consumer";
+static const uint8_t *const new_group = (const uint8_t *)"grouf";
 
 static void run(void)
 {
@@ -62,6 +63,7 @@ static void run(void)
     case 13: answer = wallathi_next_pending(copy, n, copied_state, group, 5, consumer, 8, 0, 0, &a, &b, &c, &d, &e); break;
     case 14: answer = wallathi_drop_consumer(copy, n, copied_state, group, 5, consumer, 8, &a); break;
     case 15: answer = wallathi_save(copy, n, copied_state, output, sizeof output, &a); break;
+    case 16: answer = wallathi_group_read_many(copy, n, copied_state, new_group, 5, consumer, 8, 7, 256, output, sizeof output, &a); break;
     default: answer = wallathi_load(copy, n, copied_state, file, (size_t)file_length); break;
     }
 }
@@ -88,7 +90,7 @@ static void add(struct id id)
     wallathi_add(store, sizeof store, state, id.ms, id.seq, slip, slip_length, &a, &b);
 }
 
-/* Seven groups that have been given so many messages. */
+/* Six groups that have been given so many messages, and one that has been given none. */
 static void fill_groups(uint64_t messages)
 {
     uint64_t number, read;
@@ -96,7 +98,7 @@ static void fill_groups(uint64_t messages)
         uint8_t name[5] = "group", other[8] = "consumer";
         name[4] = (uint8_t)("pabcdef"[number]);
         wallathi_create_group(store, sizeof store, state, name, 5, 0, 0);
-        for (read = 0; read < messages; read++) {
+        for (read = 0; number < 6 && read < messages; read++) {
             other[7] = (uint8_t)('g' + read % 15);
             wallathi_group_read(store, sizeof store, state, name, 5, other, 8, 1, &a, &b);
         }

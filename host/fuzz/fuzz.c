@@ -12,7 +12,7 @@
 #include "start.h"
 #include "wallathi.h"
 
-enum { OUT_BYTES = 40000, VALUES = 5, LOAD = 17, COMMANDS, ANSWERS = 64, SIZES = 65 };
+enum { OUT_BYTES = 40000, VALUES = 5, LOAD = 18, COMMANDS, ANSWERS = 64, SIZES = 65 };
 
 /* Of a group's region in the state (docs/FORMAT.md). */
 enum { REGIONS_AT = 6674, REGION_BYTES = 7220, CONSUMERS_AT = 33, PENDING_AT = 306, GROUPS = 8 };
@@ -174,6 +174,9 @@ static uint32_t call(struct input *in, unsigned command)
     case 15:
         a = name(in, &m), b = name(in, &n);
         return wallathi_drop_consumer(now.store, size, now.state, a, m, b, n, v);
+    case 16:
+        a = name(in, &m), b = name(in, &n), x = half(in), y = half(in) + number(in, 1) % 2;
+        return wallathi_group_read_many(now.store, size, now.state, a, m, b, n, x, y, now.out, room, v);
     default:
         return wallathi_save(now.store, size, now.state, now.out, room, v);
     }

@@ -61,6 +61,10 @@ extern "C" {
 #define WALLATHI_LONGEST_SNAPSHOT 321604
 /* A name of a group or of a consumer has 1 to this many bytes. */
 #define WALLATHI_LONGEST_NAME 16
+/* A batch has 0 to this many messages. */
+#define WALLATHI_LARGEST_BATCH 256
+/* An ID has this many bytes in the output of a batch. */
+#define WALLATHI_ID_BYTES 16
 /* Answers from 1 to this one are refusals; later versions may use those that are not named below. */
 #define WALLATHI_LAST_REFUSAL 31
 
@@ -70,7 +74,7 @@ extern "C" {
 #define WALLATHI_NO_SLOT 1
 /* refused: store and state are not the image of any messages and groups */
 #define WALLATHI_DAMAGED 2
-/* refused: the slip is none, or a name does not have its length */
+/* refused: the slip is none, a name does not have its length, or a batch is to have over 256 messages */
 #define WALLATHI_BAD_ARGUMENT 3
 /* refused: the ID is not above the last ID that was given */
 #define WALLATHI_LOW_ID 4
@@ -80,7 +84,7 @@ extern "C" {
 #define WALLATHI_LONG_MESSAGE 6
 /* refused: the message needs a slot of its own and none is free */
 #define WALLATHI_FULL 7
-/* refused: the output is shorter than the answer */
+/* refused: the output is shorter than the answer (read, field, save), or than as many IDs as are asked for (batch) */
 #define WALLATHI_SHORT_OUTPUT 8
 /* refused: there is no such group */
 #define WALLATHI_NO_GROUP 9
@@ -185,6 +189,18 @@ uint32_t wallathi_destroy_group(const uint8_t *store, size_t store_length, uint8
  */
 uint32_t wallathi_group_read(const uint8_t *store, size_t store_length, uint8_t *state, const uint8_t *group, size_t group_length,
                              const uint8_t *consumer, size_t consumer_length, uint64_t now, uint64_t *id_ms, uint64_t *id_seq);
+
+/*
+ * Delivers a batch: the first n live messages above the last delivered one, n from 0 to 256, or as many as there are and as entries are
+ * free. It leaves what as many calls of wallathi_group_read in a row would leave, and judges the store once. The output gets their IDs in
+ * rising order, 16 bytes each: ms, then seq, both big-endian. Where nothing is delivered, written is 0, no byte of store and state changes,
+ * and no consumer is made. The output must have 16 n bytes, also where less is written. 12 and 13 are given for n above 0 alone, where
+ * wallathi_group_read would give them.
+ * WALLATHI_OK, or the refusals 2, 3, 8, 9, 12 and 13.
+ */
+uint32_t wallathi_group_read_many(const uint8_t *store, size_t store_length, uint8_t *state, const uint8_t *group, size_t group_length,
+                                  const uint8_t *consumer, size_t consumer_length, uint64_t now, uint64_t n, uint8_t *output,
+                                  size_t output_length, uint64_t *written);
 
 /*
  * Removes a pending entry. The count is how many went: 1, or 0 where the ID is not pending (no byte changes then).

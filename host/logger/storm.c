@@ -79,21 +79,31 @@ static const uint8_t *bytes_of(const char *text)
     return (const uint8_t *)text;
 }
 
-/* The analyst takes what is new and acknowledges it, but for every 500th, over which the work was interrupted. */
+/* Half of an ID, as a batch has it. */
+static uint64_t half_at(const uint8_t *at)
+{
+    uint64_t half = 0;
+    for (int i = 0; i < WALLATHI_ID_BYTES / 2; i++) {
+        half = 256 * half + at[i];
+    }
+    return half;
+}
+
+/* The analyst takes what is new, batch by batch, and acknowledges it, but for every 500th, over which the work was interrupted. */
 static void read_along(uint64_t now)
 {
     static uint64_t taken;
-    uint64_t ms, seq, count;
-    for (;;) {
-        uint32_t code = wallathi_group_read(ours.store, sizeof ours.store, ours.state, bytes_of("curves"), 6, bytes_of("analyst"), 7, now, &ms, &seq);
-        if (code == WALLATHI_NONE) {
-            return;
+    static uint8_t ids[WALLATHI_LARGEST_BATCH * WALLATHI_ID_BYTES];
+    uint64_t written, count;
+    do {
+        must("group read", wallathi_group_read_many(ours.store, sizeof ours.store, ours.state, bytes_of("curves"), 6, bytes_of("analyst"), 7, now, WALLATHI_LARGEST_BATCH, ids, sizeof ids, &written));
+        for (const uint8_t *id = ids; id < ids + written; id += WALLATHI_ID_BYTES) {
+            uint64_t ms = half_at(id), seq = half_at(id + WALLATHI_ID_BYTES / 2);
+            if (++taken % 500 != 0) {
+                must("acknowledge", wallathi_acknowledge(ours.store, sizeof ours.store, ours.state, bytes_of("curves"), 6, ms, seq, &count));
+            }
         }
-        must("group read", code);
-        if (++taken % 500 != 0) {
-            must("acknowledge", wallathi_acknowledge(ours.store, sizeof ours.store, ours.state, bytes_of("curves"), 6, ms, seq, &count));
-        }
-    }
+    } while (written != 0);
 }
 
 /* A colleague takes over what has been pending for ten minutes; answers how many. */

@@ -1,6 +1,6 @@
 //! Random inputs for tests: messages, nodes, groups and commands. Equal seeds give equal inputs.
 
-use crate::groups::Group;
+use crate::groups::{Group, MOST_BATCH};
 use crate::id::Id;
 use crate::ledger::{Command, Ledger, Store};
 use crate::message::{Message, Name};
@@ -196,7 +196,8 @@ impl Commands {
             0..=9 => Command::CreateGroup { group, start: self.start(ledger) },
             10 if !self.only_fills => Command::DestroyGroup { group },
             11..=12 if !self.only_fills => Command::DropConsumer { group, consumer },
-            10..=72 => Command::GroupRead { group, consumer, now: self.now() },
+            10..=60 => Command::GroupRead { group, consumer, now: self.now() },
+            61..=72 => self.group_read_many(group, consumer),
             73..=76 => Command::Acknowledge { id: self.pending_id(ledger, &group), group },
             77..=88 => {
                 let (id, least_idle, now) =
@@ -205,6 +206,25 @@ impl Commands {
             }
             _ => Command::NextPending { after: self.after(ledger, &group), group, consumer },
         }
+    }
+
+    /// Mostly a few messages and an output that just holds their IDs.
+    fn group_read_many(&mut self, group: Name, consumer: Name) -> Command {
+        let n = match self.rng.below(16) {
+            0 => 0,
+            1 => MOST_BATCH - self.rng.below(2),
+            2 => *self.rng.pick(&[MOST_BATCH + 1, (1 << 32) + 1, u64::MAX]),
+            3..=4 => self.rng.below(MOST_BATCH),
+            _ => 1 + self.rng.below(5),
+        };
+        let exact = 16 * n.min(MOST_BATCH) as usize;
+        let room = match self.rng.below(12) {
+            0 => exact.saturating_sub(1),
+            1 => self.rng.size_below(exact + 1),
+            2 => exact + self.rng.size_below(40),
+            _ => exact,
+        };
+        Command::GroupReadMany { group, consumer, now: self.now(), n, room }
     }
 
     /// Mostly an ID above the last one.

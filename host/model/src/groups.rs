@@ -24,6 +24,8 @@ use crate::refusal::{Refusal, Refused, TOO_MANY_CONSUMERS, TOO_MANY_PENDING};
 pub const MOST_GROUPS: usize = 8;
 pub const MOST_CONSUMERS: usize = 16;
 pub const MOST_PENDING: usize = 256;
+/// A batch takes from 0 to this many (02, CR 1).
+pub const MOST_BATCH: u64 = 256;
 pub const PENDING_BYTES: usize = 27;
 pub const REGION_BYTES: usize = 7_220;
 
@@ -72,16 +74,43 @@ impl Group {
         Ok(())
     }
 
-    /// Group read of a live message above the last delivered.
-    pub fn deliver(&mut self, consumer: &[u8], id: Id, now: u64) -> Result<(), Refusal> {
+    /// Refusals 12 and 13, of a read that finds a live message.
+    fn check_read(&self, consumer: &[u8]) -> Result<(), Refusal> {
         self.check_consumer(consumer)?;
         if self.pending.len() >= MOST_PENDING {
             return Err(TOO_MANY_PENDING);
         }
+        Ok(())
+    }
+
+    /// Group read of a live message above the last delivered.
+    pub fn deliver(&mut self, consumer: &[u8], id: Id, now: u64) -> Result<(), Refusal> {
+        self.check_read(consumer)?;
         self.consumers.insert(consumer.to_vec());
         self.pending.insert(id, Pending { consumer: consumer.to_vec(), time: now, count: 1 });
         self.last_delivered = id;
         Ok(())
+    }
+
+    /// Batch reading (02, CR 1): `ids` are the first live messages above the last delivered, as many as are asked for and there are.
+    /// Those for which an entry is free are delivered; they are the answer.
+    pub fn deliver_batch<'a>(
+        &mut self,
+        consumer: &[u8],
+        ids: &'a [Id],
+        now: u64,
+    ) -> Result<&'a [Id], Refusal> {
+        if ids.is_empty() {
+            return Ok(ids);
+        }
+        self.check_read(consumer)?;
+        let free = MOST_PENDING - self.pending.len();
+        let delivered = &ids[..ids.len().min(free)];
+        let entry = Pending { consumer: consumer.to_vec(), time: now, count: 1 };
+        self.pending.extend(delivered.iter().map(|&id| (id, entry.clone())));
+        self.consumers.insert(consumer.to_vec());
+        self.last_delivered = delivered[delivered.len() - 1];
+        Ok(delivered)
     }
 
     /// The number of entries removed, 1 or 0.

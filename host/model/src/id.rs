@@ -23,6 +23,11 @@ impl Id {
         Id::new((both >> 64) as u64, both as u64)
     }
 
+    /// The IDs that stand one after another, 16 bytes each.
+    pub fn list(bytes: &[u8]) -> Vec<Id> {
+        bytes.chunks(16).map(|id| Id::from_bytes(id.try_into().expect("16 bytes each"))).collect()
+    }
+
     pub fn to_bytes(self) -> [u8; 16] {
         (u128::from(self.ms) << 64 | u128::from(self.seq)).to_be_bytes()
     }
@@ -74,6 +79,8 @@ mod tests {
         assert_eq!(id.to_bytes(), bytes);
         assert_eq!(Id::from_bytes(bytes), id);
         assert_eq!(Id::from_bytes([0xFF; 16]), Id::GREATEST);
+        assert_eq!(Id::list(&[bytes, [0; 16]].concat()), [id, Id::LEAST]);
+        assert_eq!(Id::list(&[]), []);
     }
 
     #[test]

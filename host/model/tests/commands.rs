@@ -16,22 +16,34 @@ fn ledger(store: &Store) -> &Ledger {
     &model(store).ledger
 }
 
-/// Whether this answer to this command leaves ledger and cut as they were. A drop that answers 0
-/// may still remove a consumer without entries.
-fn changes_nothing(command: &Command, answer: &Answer) -> bool {
-    let none_counted = *answer == Answer::Count(0) && !matches!(command, Command::DropConsumer { .. });
-    let reads = matches!(answer, Answer::Written(_) | Answer::Pending { .. })
-        || matches!(command, Command::Next { .. });
-    answer.code() != 0 || none_counted || reads
+/// A batch is so many single reads in a row, and where it is shorter than n, the next one delivers nothing. (02, CR 1)
+fn check_batch(before: &Store, command: &Command, answer: &Answer, after: &Store) {
+    let Command::GroupReadMany { group, consumer, now, n, .. } = command else { return };
+    let single = Command::GroupRead { group: group.clone(), consumer: consumer.clone(), now: *now };
+    let mut store = before.clone();
+    match answer {
+        Answer::Written(bytes) => {
+            let ids = Id::list(bytes);
+            ids.iter().for_each(|&id| assert_eq!(store.run(&single), Answer::Id(id)));
+            assert!(store == *after);
+            let is_whole = ids.len() as u64 == *n;
+            let next = store.run(&single);
+            let is_full = !ids.is_empty() && next == Answer::Refused(13);
+            assert!(is_whole || is_full || next == Answer::NothingNew, "{command:?}, then {next:?}");
+        }
+        Answer::Refused(12 | 13) => assert_eq!(store.run(&single), *answer),
+        _ => assert!(matches!(answer, Answer::Refused(3 | 8 | 9))),
+    }
 }
 
 /// Runs one command and checks what holds after any command.
 fn checked_run(store: &mut Store, command: &Command) -> Answer {
     let before = store.clone();
     let answer = store.run(command);
-    if changes_nothing(command, &answer) {
+    if answer.changes_nothing(command) {
         assert!(*store == before, "{command:?} answered {answer:?}");
     }
+    check_batch(&before, command, &answer, store);
     answer
 }
 
@@ -105,6 +117,12 @@ fn a_pending_id_has_one_consumer_and_is_delivered_once() {
             (Command::GroupRead { group, .. }, Answer::Id(id)) => {
                 let last = delivered.insert(group.clone(), *id);
                 assert!(last.is_none_or(|last| last < *id));
+            }
+            (Command::GroupReadMany { group, .. }, Answer::Written(ids)) => {
+                for id in Id::list(ids) {
+                    let last = delivered.insert(group.clone(), id);
+                    assert!(last.is_none_or(|last| last < id));
+                }
             }
             (Command::CreateGroup { group, .. } | Command::DestroyGroup { group }, Answer::Done) => {
                 delivered.remove(group);

@@ -189,20 +189,46 @@ pub(crate) fn delivered(region: &[u8]) -> Id {
     id_at(region, DELIVERED)
 }
 
-/// Deliver in a region that is in order: 12, 13 or 0.
-pub(crate) fn deliver_in(region: &mut [u8], consumer: &[u8], time: u64, id: Id) -> u32 {
-    let count = number_at(region, PENDING);
-    if place_of(region, consumer).is_err() && usize::from(region[CONSUMERS]) == MOST_CONSUMERS {
+/// Why a region that is in order takes no entry for the consumer: 12, 13 or 0.
+pub(crate) fn refused(region: &[u8], consumer: &[u8]) -> u32 {
+    if usize::from(region[CONSUMERS]) == MOST_CONSUMERS && place_of(region, consumer).is_err() {
         return 12;
     }
-    if count == MOST_PENDING {
+    if free_entries(region) == 0 {
         return 13;
     }
-    let place = make_consumer(region, consumer).expect("there is room");
-    write_entry(region, count, id, place, time, 1);
-    set_pending(region, count + 1);
-    region[DELIVERED..CONSUMERS].copy_from_slice(&id.to_bytes());
     0
+}
+
+/// How many entries a region takes.
+pub(crate) fn free_entries(region: &[u8]) -> usize {
+    MOST_PENDING - number_at(region, PENDING)
+}
+
+/// Deliver in a region that is in order: 12, 13 or 0.
+pub(crate) fn deliver_in(region: &mut [u8], consumer: &[u8], time: u64, id: Id) -> u32 {
+    let code = refused(region, consumer);
+    if code == 0 {
+        deliver_all(region, consumer, time, &id.to_bytes());
+    }
+    code
+}
+
+/// Delivers IDs, 16 bytes each and at least one, to a region that takes as many entries for the consumer.
+pub(crate) fn deliver_all(region: &mut [u8], consumer: &[u8], time: u64, ids: &[u8]) {
+    let place = make_consumer(region, consumer).expect("there is room");
+    let mut entry = [0; ENTRY];
+    entry[PLACE] = place;
+    entry[TIME..COUNT].copy_from_slice(&time.to_le_bytes());
+    entry[COUNT] = 1;
+    let count = number_at(region, PENDING);
+    let entries = region[ENTRIES + count * ENTRY..].chunks_exact_mut(ENTRY);
+    for (row, id) in entries.zip(ids.chunks_exact(PLACE)) {
+        entry[..PLACE].copy_from_slice(id);
+        row.copy_from_slice(&entry);
+    }
+    set_pending(region, count + ids.len() / PLACE);
+    region[DELIVERED..CONSUMERS].copy_from_slice(&ids[ids.len() - PLACE..]);
 }
 
 pub fn acknowledge(region: &mut [u8], id: Id) -> u64 {

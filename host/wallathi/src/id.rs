@@ -4,6 +4,9 @@ use core::error::Error;
 use core::fmt;
 use core::str::FromStr;
 
+/// How many bytes an ID has where a command writes it.
+pub const ID_BYTES: usize = 16;
+
 /// A message's ID: ms, then seq. It is written `ms-seq`.
 ///
 /// ```
@@ -32,6 +35,14 @@ impl Id {
     #[must_use]
     pub const fn new(ms: u64, seq: u64) -> Id {
         Id { ms, seq }
+    }
+
+    /// The ID of 16 bytes: ms, then seq, each big-endian.
+    #[must_use]
+    pub const fn from_bytes(bytes: [u8; ID_BYTES]) -> Id {
+        let both = u128::from_be_bytes(bytes);
+        #[allow(clippy::cast_possible_truncation)] // the lower half
+        Id::new((both >> 64) as u64, both as u64)
     }
 
     /// The ID that follows; none after the greatest.

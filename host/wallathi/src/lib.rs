@@ -6,8 +6,8 @@
 //!
 //! The crate does without the standard library. The feature `alloc`, on by default, has what owns memory: [`Owned`], [`Slip`],
 //! [`Messages`] and the commands that answer vectors. Without it a store lives in [`Borrowed`] bytes, messages are [`SlipRef`]s, and
-//! answers go to lent bytes ([`Store::read_into`], [`Store::field_into`], [`Store::save_into`]). The library is compiled for x86-64
-//! Linux.
+//! answers go to lent bytes ([`Store::read_into`], [`Store::field_into`], [`Store::group_read_many_into`], [`Store::save_into`]). The
+//! library is compiled for x86-64 Linux.
 
 #![no_std]
 #![deny(unsafe_code, missing_docs)]
@@ -24,12 +24,13 @@ mod refusal;
 mod slip;
 mod store;
 
-pub use id::{Id, NotAnId};
+pub use id::{Id, NotAnId, ID_BYTES};
 pub use raw::STATE_BYTES;
 pub use refusal::Refusal;
 pub use slip::{Pairs, SlipRef, LONGEST_STRING, MOST_PAIRS};
 pub use store::{
-    Borrowed, Pending, PendingEntries, Store, LONGEST_SLIP, LONGEST_SNAPSHOT, MOST_SLOTS, SLOT_BYTES,
+    Borrowed, Pending, PendingEntries, Store, LARGEST_BATCH, LONGEST_SLIP, LONGEST_SNAPSHOT, MOST_SLOTS,
+    SLOT_BYTES,
 };
 
 #[cfg(feature = "alloc")]

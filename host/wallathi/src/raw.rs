@@ -118,6 +118,20 @@ mod c {
             id_ms: *mut u64,
             id_seq: *mut u64,
         ) -> u32;
+        pub fn wallathi_group_read_many(
+            store: *const u8,
+            store_length: usize,
+            state: *mut u8,
+            group: *const u8,
+            group_length: usize,
+            consumer: *const u8,
+            consumer_length: usize,
+            now: u64,
+            n: u64,
+            output: *mut u8,
+            output_length: usize,
+            written: *mut u64,
+        ) -> u32;
         pub fn wallathi_acknowledge(
             store: *const u8,
             store_length: usize,
@@ -378,6 +392,38 @@ pub fn group_read(
             now,
             id_ms,
             id_seq,
+        )
+    }
+}
+
+/// Delivers up to n live messages above the last delivered one to a consumer, and writes their IDs to the start of the output.
+#[must_use]
+#[allow(clippy::too_many_arguments)]
+pub fn group_read_many(
+    store: &[u8],
+    state: &mut State,
+    group: &[u8],
+    consumer: &[u8],
+    now: u64,
+    n: u64,
+    output: &mut [u8],
+    written: &mut u64,
+) -> u32 {
+    // SAFETY: see above.
+    unsafe {
+        c::wallathi_group_read_many(
+            store.as_ptr(),
+            store.len(),
+            state.as_mut_ptr(),
+            group.as_ptr(),
+            group.len(),
+            consumer.as_ptr(),
+            consumer.len(),
+            now,
+            n,
+            output.as_mut_ptr(),
+            output.len(),
+            written,
         )
     }
 }

@@ -11,7 +11,7 @@ pub enum Refusal {
     NoSlot,
     /// 2: store and state are the image of no messages and groups: damaged, or never set up.
     Damaged,
-    /// 3: a slip is none, or a name does not have its length.
+    /// 3: a slip is none, a name does not have its length, or a batch is to have over 256 messages.
     BadArgument,
     /// 4: the ID is not above the last one.
     LowId,
@@ -21,7 +21,7 @@ pub enum Refusal {
     LongMessage,
     /// 7: the message needs a slot of its own and none is free.
     Full,
-    /// 8: the output is shorter than the answer.
+    /// 8: the output is shorter than the answer, or in a batch than as many IDs as are asked for.
     ShortOutput,
     /// 9: there is no such group.
     NoGroup,
@@ -47,12 +47,12 @@ pub enum Refusal {
 const ALL: [(Refusal, &str); 17] = [
     (Refusal::NoSlot, "the store is shorter than one slot of 4,096 bytes"),
     (Refusal::Damaged, "store and state are not the image of any ledger: damaged, or never set up"),
-    (Refusal::BadArgument, "a slip, a name or a key breaks its rule"),
+    (Refusal::BadArgument, "a slip, a name, a key or a batch's number breaks its rule"),
     (Refusal::LowId, "the ID is not above the last ID"),
     (Refusal::NoIdLeft, "the last ID is the greatest, and the time is not above its ms"),
     (Refusal::LongMessage, "the message is too large: a node of it alone exceeds 4,095 bytes"),
     (Refusal::Full, "the store is full: a new node is needed and no slot is free"),
-    (Refusal::ShortOutput, "the output is shorter than the answer"),
+    (Refusal::ShortOutput, "the output is shorter than the answer, or in a batch than the IDs asked for"),
     (Refusal::NoGroup, "no such group"),
     (Refusal::GroupExists, "the group exists"),
     (Refusal::MostGroups, "there are 8 groups already"),

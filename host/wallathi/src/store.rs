@@ -8,7 +8,7 @@ use alloc::{boxed::Box, vec, vec::Vec};
 use crate::raw::{self, State};
 use crate::{Id, Refusal, SlipRef};
 #[cfg(feature = "alloc")]
-use crate::{Slip, LONGEST_STRING, STATE_BYTES};
+use crate::{Slip, ID_BYTES, LONGEST_STRING, STATE_BYTES};
 
 /// How many bytes a slot has.
 pub const SLOT_BYTES: usize = 4096;
@@ -21,6 +21,9 @@ pub const LONGEST_SLIP: usize = 5353;
 
 /// No snapshot is longer: an output of this length suffices for every save.
 pub const LONGEST_SNAPSHOT: usize = 321_604;
+
+/// A batch has at most so many messages.
+pub const LARGEST_BATCH: usize = 256;
 
 /// A store and its state. `S` and `T` own the bytes or borrow them: [`Owned`], [`Borrowed`].
 ///
@@ -82,6 +85,13 @@ fn found<A>(code: u32, none: u32, answer: A) -> Result<Option<A>, Refusal> {
 
 fn id_of([ms, seq]: [u64; 2]) -> Id {
     Id::new(ms, seq)
+}
+
+/// The IDs that a batch wrote.
+#[cfg(feature = "alloc")]
+fn ids_of(bytes: &[u8]) -> Vec<Id> {
+    let ids = bytes.chunks_exact(ID_BYTES).map(|id| id.try_into().expect("the length of an ID"));
+    ids.map(Id::from_bytes).collect()
 }
 
 /// A length that the library wrote: at most the output's.
@@ -332,6 +342,60 @@ impl<S: Borrow<[u8]>, T: BorrowMut<State>> Store<S, T> {
         let code =
             raw::group_read(self.store.borrow(), self.state.borrow_mut(), group, consumer, now, &mut id);
         found(code, raw::NONE, id_of(id))
+    }
+
+    /// The next live IDs above the last delivered, now pending for the consumer: at most `n`, and no more than entries are free. It is
+    /// what as many group reads in a row would give, at the cost of one.
+    ///
+    /// ```
+    /// use wallathi::{Id, Owned, Slip};
+    /// let mut store = Owned::new(1)?;
+    /// for second in 1..=5 {
+    ///     store.add_by_clock(1_000 * second, &Slip::of([("east", "-3")])?)?;
+    /// }
+    /// store.create_group(b"curves", Id::LEAST)?;
+    /// assert_eq!(store.group_read_many(b"curves", b"analyst", 5_000, 3)?.len(), 3);
+    /// let rest = store.group_read_many(b"curves", b"analyst", 5_000, 256)?;
+    /// assert_eq!(rest, [Id::new(4_000, 0), Id::new(5_000, 0)]);
+    /// assert!(store.group_read_many(b"curves", b"analyst", 5_000, 256)?.is_empty()); // nothing new
+    /// # Ok::<(), wallathi::Refusal>(())
+    /// ```
+    ///
+    /// # Errors
+    ///
+    /// [`Refusal::Damaged`]; [`Refusal::BadArgument`], also for an `n` above [`LARGEST_BATCH`]; [`Refusal::NoGroup`]. For an `n` above 0,
+    /// where a live message is above the last delivered: [`Refusal::MostConsumers`]; [`Refusal::MostPending`] where no entry is free.
+    #[cfg(feature = "alloc")]
+    pub fn group_read_many(
+        &mut self,
+        group: &[u8],
+        consumer: &[u8],
+        now: u64,
+        n: u64,
+    ) -> Result<Vec<Id>, Refusal> {
+        let mut out = [0; LARGEST_BATCH * ID_BYTES];
+        let length = self.group_read_many_into(group, consumer, now, n, &mut out)?;
+        Ok(ids_of(&out[..length]))
+    }
+
+    /// The same at the start of `out`, [`ID_BYTES`] bytes for each ID ([`Id::from_bytes`]); the answer is their number in bytes.
+    ///
+    /// # Errors
+    ///
+    /// Those of [`Store::group_read_many`]; [`Refusal::ShortOutput`] where `out` has less than `n` times [`ID_BYTES`] bytes, also where
+    /// there is less to write.
+    pub fn group_read_many_into(
+        &mut self,
+        group: &[u8],
+        consumer: &[u8],
+        now: u64,
+        n: u64,
+        out: &mut [u8],
+    ) -> Result<usize, Refusal> {
+        let mut length = 0;
+        let (store, state) = (self.store.borrow(), self.state.borrow_mut());
+        answered(raw::group_read_many(store, state, group, consumer, now, n, out, &mut length))?;
+        Ok(length_of(length))
     }
 
     /// Removes a pending entry, and says whether there was one.

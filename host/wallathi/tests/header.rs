@@ -27,6 +27,8 @@ fn sizes_and_answers() {
         ("LONGEST_STRING", wallathi::LONGEST_STRING as u64),
         ("LONGEST_SLIP", wallathi::LONGEST_SLIP as u64),
         ("LONGEST_SNAPSHOT", wallathi::LONGEST_SNAPSHOT as u64),
+        ("LARGEST_BATCH", wallathi::LARGEST_BATCH as u64),
+        ("ID_BYTES", wallathi::ID_BYTES as u64),
         ("OK", u64::from(raw::OK)),
         ("NONE", u64::from(raw::NONE)),
         ("ABSENT", u64::from(raw::ABSENT)),

@@ -1,6 +1,6 @@
 //! The crate without an allocator: a store, slips and answers in lent bytes.
 
-use wallathi::{Borrowed, Id, Pending, Refusal, SlipRef, LONGEST_SLIP, SLOT_BYTES, STATE_BYTES};
+use wallathi::{Borrowed, Id, Pending, Refusal, SlipRef, ID_BYTES, LONGEST_SLIP, SLOT_BYTES, STATE_BYTES};
 
 #[test]
 fn a_store_in_lent_bytes() {
@@ -21,6 +21,13 @@ fn a_store_in_lent_bytes() {
     assert_eq!(store.group_read(b"curves", b"analyst", 9), Ok(Some(id)));
     let entry = Pending { id, time: 9, count: 1, lives: true };
     assert!(store.pending(b"curves", b"analyst").eq([Ok(entry)]));
+    let next = store.add_by_clock(6, slip).unwrap();
+    assert_eq!(
+        store.group_read_many_into(b"curves", b"relief", 9, 2, &mut out[..31]),
+        Err(Refusal::ShortOutput)
+    );
+    assert_eq!(store.group_read_many_into(b"curves", b"relief", 9, 2, &mut out), Ok(ID_BYTES));
+    assert_eq!(out.first_chunk().map(|&bytes| Id::from_bytes(bytes)), Some(next));
     let length = store.save_into(&mut out).unwrap();
     store.set_up().unwrap();
     store.load(&out[..length]).unwrap();

@@ -1,7 +1,7 @@
 //! The safe crate, as a Rust user meets it.
 #![cfg(feature = "alloc")]
 
-use wallathi::{Borrowed, Id, Owned, Pending, Refusal, Slip, SLOT_BYTES, STATE_BYTES};
+use wallathi::{Borrowed, Id, Owned, Pending, Refusal, Slip, ID_BYTES, SLOT_BYTES, STATE_BYTES};
 
 fn slip(field: &str, value: &str) -> Slip {
     Slip::of([(field, value)]).unwrap()
@@ -58,6 +58,29 @@ fn groups() {
 }
 
 #[test]
+fn batches() {
+    let mut store = Owned::new(4).unwrap();
+    let ids: Vec<Id> = (1..=300).map(|ms| store.add_by_clock(ms, &slip("n", "1")).unwrap()).collect();
+    store.create_group(b"curves", Id::LEAST).unwrap();
+    assert_eq!(store.group_read_many(b"curves", b"analyst", 10, 0), Ok(vec![]));
+    assert_eq!(store.group_read_many(b"curves", b"analyst", 10, 3).unwrap(), ids[..3]);
+    assert_eq!(store.pending(b"curves", b"analyst").count(), 3);
+    assert_eq!(store.group_read(b"curves", b"relief", 11), Ok(Some(ids[3])));
+    // As many as entries are free.
+    assert_eq!(store.group_read_many(b"curves", b"analyst", 12, 256).unwrap(), ids[4..256]);
+    assert_eq!(store.group_read_many(b"curves", b"analyst", 12, 1), Err(Refusal::MostPending));
+    store.drop_consumer(b"curves", b"analyst").unwrap();
+    assert_eq!(store.group_read_many(b"curves", b"analyst", 13, 256).unwrap(), ids[256..]);
+    assert_eq!(store.group_read_many(b"curves", b"nobody", 13, 256), Ok(vec![]));
+    assert_eq!(store.pending(b"curves", b"nobody").count(), 0);
+    for n in [257, (1 << 32) + 1, u64::MAX] {
+        assert_eq!(store.group_read_many(b"curves", b"analyst", 13, n), Err(Refusal::BadArgument));
+    }
+    assert_eq!(store.group_read_many(b"other", b"analyst", 13, 1), Err(Refusal::NoGroup));
+    assert_eq!(store.group_read_many_into(b"other", b"a", 13, 2, &mut [0; 31]), Err(Refusal::ShortOutput));
+}
+
+#[test]
 fn save_and_load_in_borrowed_bytes() {
     let mut store = Owned::new(3).unwrap();
     store.add_by_clock(7, &slip("east", "-3")).unwrap();
@@ -95,4 +118,11 @@ fn ids_as_text() {
     }
     assert_eq!(Id::GREATEST.following(), None);
     assert_eq!(Id::new(1, u64::MAX).following(), Some(Id::new(2, 0)));
+}
+
+#[test]
+fn ids_as_bytes() {
+    let bytes = [0, 0, 0, 0, 0, 0, 1, 2, 0xA0, 0, 0, 0, 0, 0, 0, 3];
+    assert_eq!(Id::from_bytes(bytes), Id::new(0x0102, 0xA000_0000_0000_0003));
+    assert_eq!(Id::from_bytes([255; ID_BYTES]), Id::GREATEST);
 }

@@ -1,3 +1,5 @@
+use std::iter::successors;
+
 use super::*;
 use crate::generate;
 use crate::rng::Rng;
@@ -17,6 +19,26 @@ fn deliver_makes_the_consumer_and_the_entry() {
     let entry = Pending { consumer: b"zed".to_vec(), time: 100, count: 1 };
     assert_eq!(group.pending[&Id::new(5, 0)], entry);
     assert!(group.keeps_rules());
+}
+
+/// One deliver after another, up to the first refusal, leaves the same; a batch is refused where the first one is.
+#[test]
+fn a_batch_is_as_many_delivers() {
+    let mut rng = Rng::new(8);
+    for turn in 0..200 {
+        let (_, mut batch) = generate::group(&mut rng);
+        let consumer: &[u8] = if turn % 2 == 0 { b"consumer7" } else { b"new" };
+        let following = successors(batch.last_delivered.following(), |id| id.following());
+        let ids: Vec<Id> = following.take(rng.size_below(300)).collect();
+        let mut single = batch.clone();
+        let count = ids.iter().take_while(|&&id| single.deliver(consumer, id, 7).is_ok()).count();
+        let expected = match ids.first() {
+            Some(&id) if count == 0 => single.deliver(consumer, id, 7).map(|()| &ids[..0]),
+            _ => Ok(&ids[..count]),
+        };
+        assert_eq!(batch.deliver_batch(consumer, &ids, 7), expected);
+        assert_eq!(batch, single);
+    }
 }
 
 #[test]
@@ -80,6 +102,9 @@ fn refusals_12_and_13() {
     }
     assert_eq!(group.deliver(&[16], Id::new(0, 257), 0), Err(12));
     assert_eq!(group.deliver(&[15], Id::new(0, 257), 0), Err(13));
+    assert_eq!(group.deliver_batch(&[16], &[Id::new(0, 257)], 0), Err(12));
+    assert_eq!(group.deliver_batch(&[15], &[Id::new(0, 257)], 0), Err(13));
+    assert_eq!(group.deliver_batch(&[16], &[], 0), Ok(&[][..]));
     assert_eq!(group.claim(&[16], 0, Id::new(0, 1), 0), Err(12));
     assert_eq!(group.claim(&[15], 0, Id::new(0, 1), 0), Ok(true));
     assert!(group.keeps_rules());

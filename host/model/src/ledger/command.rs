@@ -1,4 +1,4 @@
-//! The commands of 01 and their answers.
+//! The commands of 01 and of 02, and their answers.
 
 use crate::id::Id;
 use crate::message::Name;
@@ -18,6 +18,7 @@ pub enum Command {
     CreateGroup { group: Name, start: Id },
     DestroyGroup { group: Name },
     GroupRead { group: Name, consumer: Name, now: u64 },
+    GroupReadMany { group: Name, consumer: Name, now: u64, n: u64, room: usize },
     Acknowledge { group: Name, id: Id },
     Claim { group: Name, consumer: Name, least_idle: u64, id: Id, now: u64 },
     NextPending { group: Name, consumer: Name, after: Id },
@@ -34,7 +35,7 @@ pub enum Answer {
     Id(Id),
     /// Delete, trim, acknowledge, drop consumer.
     Count(u64),
-    /// Read, field, save: what starts the output.
+    /// Read, field, save, batch reading: what starts the output.
     Written(Vec<u8>),
     /// Claim.
     Moved,
@@ -65,6 +66,18 @@ impl Answer {
             Answer::NotMoved => 34,
             Answer::Refused(number) => *number,
             _ => 0,
+        }
+    }
+
+    /// Whether this answer to this command leaves ledger and cut as they were. A drop that answers 0 may still remove a consumer
+    /// without entries.
+    pub fn changes_nothing(&self, command: &Command) -> bool {
+        match (command, self) {
+            (Command::GroupReadMany { .. }, Answer::Written(ids)) => ids.is_empty(),
+            (Command::DropConsumer { .. }, Answer::Count(_)) => false,
+            (Command::Next { .. }, _) => true,
+            (_, Answer::Count(0) | Answer::Written(_) | Answer::Pending { .. }) => true,
+            _ => self.code() != 0,
         }
     }
 }

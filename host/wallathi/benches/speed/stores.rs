@@ -1,8 +1,8 @@
-//! The stores that are measured: one message, half full, full.
+//! The stores that are measured: one message, half full, full; and a full one with groups that have no pending entries, for batches.
 
 use std::collections::BTreeMap;
 
-use wallathi_model::groups::Group;
+use wallathi_model::groups::{Group, MOST_BATCH};
 use wallathi_model::id::Id;
 use wallathi_model::ledger::{Cut, Ledger, Model, MOST_SLOTS};
 use wallathi_model::message::{Message, Name};
@@ -11,20 +11,22 @@ use wallathi_model::node::{Entry, Node, MOST_LIVE};
 pub const LENGTH: usize = 64 * 4_096;
 const START: u64 = 1_763_000_000_000;
 
-/// A store: how many messages, groups, and consumers and pending entries of each group.
+/// A store: how many messages, groups, and consumers and pending entries of each group, and how many groups without entries follow.
 pub struct Fill {
     pub name: &'static str,
     messages: u64,
     groups: u64,
     consumers: u64,
     pending: u64,
+    new_groups: u64,
 }
 
-/// The last node of each has room, and so has the last group, for one entry.
-pub const FILLS: [Fill; 3] = [
-    Fill { name: "one message", messages: 1, groups: 2, consumers: 1, pending: 1 },
-    Fill { name: "half full", messages: 3_150, groups: 4, consumers: 8, pending: 128 },
-    Fill { name: "full", messages: 6_350, groups: 8, consumers: 16, pending: 256 },
+/// The last node of each has room, and so has the last group with entries, for one.
+pub const FILLS: [Fill; 4] = [
+    Fill { name: "one message", messages: 1, groups: 2, consumers: 1, pending: 1, new_groups: 0 },
+    Fill { name: "half full", messages: 3_150, groups: 4, consumers: 8, pending: 128, new_groups: 0 },
+    Fill { name: "full", messages: 6_350, groups: 8, consumers: 16, pending: 256, new_groups: 0 },
+    Fill { name: "full, new groups", messages: 6_350, groups: 5, consumers: 16, pending: 256, new_groups: 3 },
 ];
 
 /// A reading of a sensor: a small integer and a text; 100 of them nearly fill a node.
@@ -66,6 +68,24 @@ impl Fill {
         Fill::group_name(self.groups - 1)
     }
 
+    /// Whether batches are measured here.
+    pub fn is_for_batches(&self) -> bool {
+        self.new_groups > 0
+    }
+
+    /// A group without entries: before it are none of the messages, half of them, all but 256.
+    pub fn new_group(&self, number: u64) -> Name {
+        Fill::group_name(self.groups + number)
+    }
+
+    fn last_delivered(&self, number: u64) -> Id {
+        match number {
+            0 => Id::LEAST,
+            1 => self.middle(),
+            _ => self.id(self.messages - 1 - MOST_BATCH),
+        }
+    }
+
     /// A group that has all its entries.
     pub fn group(&self) -> Name {
         Fill::group_name(0)
@@ -100,7 +120,8 @@ impl Fill {
         let last = self.pending.saturating_sub(1);
         let pending = |number: u64| if number + 1 < self.groups { self.pending } else { last };
         let group = |number| (Fill::group_name(number), self.group_of(pending(number)));
-        let groups = (0..self.groups).map(group).collect();
+        let new_group = |number| (self.new_group(number), Group::new(self.last_delivered(number)));
+        let groups = (0..self.groups).map(group).chain((0..self.new_groups).map(new_group)).collect();
         let ledger = Ledger { messages, last_id: self.id(self.messages - 1), groups };
         Model { ledger, cut: Cut::of_nodes(nodes, MOST_SLOTS).expect("at most 64 nodes") }
     }

@@ -29,7 +29,10 @@ impl Told {
     /// Nothing told yet.
     fn before(command: &Command) -> Told {
         let room = match command {
-            Command::Read { room, .. } | Command::Field { room, .. } | Command::Save { room } => *room,
+            Command::Read { room, .. }
+            | Command::Field { room, .. }
+            | Command::GroupReadMany { room, .. }
+            | Command::Save { room } => *room,
             _ => 0,
         };
         Told { code: u32::MAX, values: [MARK; 5], output: vec![0xA5; room + 2 * GUARD] }
@@ -64,12 +67,18 @@ impl Told {
     }
 }
 
-/// Whether this answer to this command leaves every byte of store and state.
-fn changes_nothing(command: &Command, answer: &Answer) -> bool {
-    let none_counted = *answer == Answer::Count(0) && !matches!(command, Command::DropConsumer { .. });
-    let reads = matches!(answer, Answer::Written(_) | Answer::Pending { .. })
-        || matches!(command, Command::Next { .. });
-    answer.code() != 0 || none_counted || reads
+/// A batch is so many single reads in a row: on a copy of what a side was lent they give the same IDs and leave the same bytes.
+fn check_batch(call: Call, before: &Lent, command: &Command, answer: &Answer, after: &Lent) {
+    let (Command::GroupReadMany { group, consumer, now, .. }, Answer::Written(ids)) = (command, answer)
+    else {
+        return;
+    };
+    let single = Command::GroupRead { group: group.clone(), consumer: consumer.clone(), now: *now };
+    let mut lent = before.clone();
+    for id in Id::list(ids) {
+        assert_eq!(Told::of(&mut lent, call, &single), Told::expected(&single, &Answer::Id(id)));
+    }
+    assert!(lent == *after, "{command:?} left other bytes than single reads");
 }
 
 /// What a node was when its slot's bytes were last worked out: its key, how many messages it has and how many are deleted. Each
@@ -137,6 +146,7 @@ fn changed_group(command: &Command) -> Option<&Name> {
         CreateGroup { group, .. }
         | DestroyGroup { group }
         | GroupRead { group, .. }
+        | GroupReadMany { group, .. }
         | Acknowledge { group, .. }
         | Claim { group, .. }
         | DropConsumer { group, .. } => Some(group),
@@ -199,9 +209,10 @@ impl Beside {
         let told = Told::expected(command, &answer);
         let model = self.model.model.as_ref().expect("commands keep an image");
         self.expected.update(command, model);
-        let kept = changes_nothing(command, &answer);
+        let kept = answer.changes_nothing(command);
         for side in &mut self.sides {
             side.run(command, &told);
+            check_batch(side.call, &side.before, command, &answer, &side.lent);
             if kept {
                 assert!(side.lent == side.before, "{}: {command:?} changed bytes", side.name);
             } else {
@@ -269,7 +280,8 @@ pub fn run_on(lent: &mut Lent, held: Option<Model>, command: &Command) -> Answer
         lent.clone_from(&before);
         let told = Told::of(lent, call, command);
         assert!(told == expected, "{name}: {command:?} told {} instead of {}", told.code, expected.code);
-        if changes_nothing(command, &answer) {
+        check_batch(call, &before, command, &answer, lent);
+        if answer.changes_nothing(command) {
             assert!(*lent == before, "{name}: {command:?} changed bytes");
         } else {
             assert_eq!(lent.read().as_ref(), model.model.as_ref(), "{name}: {command:?}");

@@ -6,7 +6,7 @@ use wallathi_model::id::Id;
 use wallathi_model::image;
 use wallathi_model::index::record::{self, Field};
 use wallathi_model::index::{Index, POOL_NODES};
-use wallathi_model::ledger::{Cut, Ledger, Model, Store};
+use wallathi_model::ledger::{Command, Cut, Ledger, Model, Store};
 use wallathi_model::node;
 use wallathi_model::rng::Rng;
 
@@ -77,7 +77,7 @@ pub struct Sweep {
     lent: Lent,
     part: fn(&mut Lent) -> &mut [u8],
     held: fn(&Lent, &Store, usize) -> Option<Model>,
-    next: Commands,
+    next: Box<dyn FnMut(&Store) -> Command>,
     pub images: usize,
     pub damaged: usize,
 }
@@ -97,8 +97,14 @@ impl Sweep {
         held: fn(&Lent, &Store, usize) -> Option<Model>,
         seed: u64,
     ) -> Sweep {
-        let next = Commands::with_mood(seed, Mood::Fills);
+        let mut commands = Commands::with_mood(seed, Mood::Fills);
+        let next = Box::new(move |store: &Store| commands.next(store));
         Sweep { lent: image_of(&store), store, part, held, next, images: 0, damaged: 0 }
+    }
+
+    /// The same with one command alone.
+    pub fn by(self, command: Command) -> Sweep {
+        Sweep { next: Box::new(move |_| command.clone()), ..self }
     }
 
     /// A command for each of the values that the byte at a place gets in turn; it is as it was again then.
@@ -108,7 +114,7 @@ impl Sweep {
             (self.part)(&mut self.lent)[at] = byte;
             let held = (self.held)(&self.lent, &self.store, at);
             *(if held.is_some() { &mut self.images } else { &mut self.damaged }) += 1;
-            run_damaged(&self.lent, held, &self.next.next(&self.store));
+            run_damaged(&self.lent, held, &(self.next)(&self.store));
         }
         (self.part)(&mut self.lent)[at] = good;
     }

@@ -137,7 +137,7 @@ fn idle_times_from_both_sides() {
 }
 
 /// A store of so many slots, full of small messages 7-1, 7-2, .. that were added, with these groups.
-fn beside_with(slots: usize, groups: BTreeMap<Name, Group>) -> Beside {
+pub fn store_with(slots: usize, groups: BTreeMap<Name, Group>) -> Store {
     let mut store = Store::fresh(slots * SLOT);
     let slip = slip::write(&one("1"));
     let add = |seq| Command::Add { id: Id::new(7, seq), slip: slip.clone() };
@@ -145,6 +145,11 @@ fn beside_with(slots: usize, groups: BTreeMap<Name, Group>) -> Beside {
     let model = store.model.as_mut().expect("an image");
     model.ledger.groups = groups;
     assert!(model.keeps_rules());
+    store
+}
+
+pub fn beside_with(slots: usize, groups: BTreeMap<Name, Group>) -> Beside {
+    let store = store_with(slots, groups);
     Beside::new(image_of(&store), store)
 }
 
@@ -257,7 +262,11 @@ impl Crowd {
                 Command::CreateGroup { group: self.name(40), start }
             }
             12 => Command::DestroyGroup { group },
-            13..=49 => Command::GroupRead { group, consumer, now: time },
+            13..=39 => Command::GroupRead { group, consumer, now: time },
+            40..=49 => {
+                let n = *self.rng.pick(&[0, 1, 2, 5, 40, 256]);
+                Command::GroupReadMany { group, consumer, now: time, n, room: 16 * 256 }
+            }
             50..=59 => Command::Acknowledge { group, id },
             60..=79 => {
                 let least_idle = *self.rng.pick(&[0, 0, 0, 1, 500, u64::MAX]);

@@ -51,7 +51,8 @@ fn large_lengths(times: usize) -> Vec<usize> {
 fn small_stores() {
     let (mut codes, mut fullest) = (Codes::new(), 0);
     for mood in [Mood::Mixed, Mood::Fills, Mood::FillsSmall, Mood::FillsLong, Mood::Rolls] {
-        let (more, full) = run_lists("small stores", mood, &small_lengths(amount(7, 42)), amount(450, 5_000));
+        let (more, full) =
+            run_lists("small stores", mood, &small_lengths(amount(7, 42)), amount(1_000, 5_000));
         more.into_iter().for_each(|(code, times)| *codes.entry(code).or_insert(0) += times);
         fullest = fullest.max(full);
     }

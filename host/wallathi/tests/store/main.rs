@@ -1,6 +1,7 @@
 //! The library beside the model and the plain store: each answer, each out-parameter and each byte of store, state and output is
 //! compared after each command. Seeds are fixed. With WALLATHI_LONG in the environment there is much more of everything.
 
+mod batches;
 mod beside;
 mod damage;
 mod every_byte;

@@ -38,6 +38,9 @@ pub fn proved(
         GroupRead { group, consumer, now } => {
             raw::group_read(store, state, group, consumer, *now, pair(values))
         }
+        GroupReadMany { group, consumer, now, n, .. } => {
+            raw::group_read_many(store, state, group, consumer, *now, *n, out, &mut values[0])
+        }
         Acknowledge { group, id } => raw::acknowledge(store, state, group, id.ms, id.seq, &mut values[0]),
         Claim { group, consumer, least_idle, id, now } => {
             raw::claim(store, state, group, consumer, *least_idle, id.ms, id.seq, *now)
@@ -73,6 +76,9 @@ pub fn plain(
         DestroyGroup { group } => return plain::destroy_group(store, state, group),
         GroupRead { group, consumer, now } => {
             plain::group_read(store, state, group, consumer, *now, &mut given)
+        }
+        GroupReadMany { group, consumer, now, n, .. } => {
+            return plain::group_read_many(store, state, group, consumer, *now, *n, out, &mut values[0])
         }
         Acknowledge { group, id } => return plain::acknowledge(store, state, group, *id, &mut values[0]),
         Claim { group, consumer, least_idle, id, now } => {

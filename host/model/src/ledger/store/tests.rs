@@ -40,6 +40,14 @@ fn group_read(store: &mut Store, group: &str, consumer: &str, now: u64) -> Answe
     store.run(&Command::GroupRead { group: name(group), consumer: name(consumer), now })
 }
 
+fn read_many(consumer: &str, n: u64, room: usize) -> Command {
+    Command::GroupReadMany { group: name("g"), consumer: name(consumer), now: 100, n, room }
+}
+
+fn ids(list: &[u64]) -> Answer {
+    Answer::Written(list.iter().flat_map(|&ms| Id::new(ms, 0).to_bytes()).collect())
+}
+
 fn claim(store: &mut Store, consumer: &str, least_idle: u64, id: Id, now: u64) -> Answer {
     store.run(&Command::Claim { group: name("g"), consumer: name(consumer), least_idle, id, now })
 }
@@ -238,6 +246,68 @@ fn group_read_delivers_in_order() {
     assert!(group.consumers.iter().eq([b"c", b"d"]));
     let entry = Pending { consumer: name("d"), time: 200, count: 1 };
     assert_eq!(group.pending[&Id::new(9, 0)], entry);
+}
+
+#[test]
+fn a_batch_delivers_in_order() {
+    let mut store = store();
+    create(&mut store, "g", Id::LEAST);
+    assert_eq!(store.run(&read_many("c", 0, 0)), ids(&[]));
+    assert_eq!(store.run(&read_many("c", 2, 32)), ids(&[3, 5]));
+    let group = &store.model.as_ref().unwrap().ledger.groups[&name("g")];
+    assert_eq!(group.last_delivered, Id::new(5, 0));
+    assert!(group.consumers.iter().eq([b"c"]));
+    let entry = Pending { consumer: name("c"), time: 100, count: 1 };
+    assert!(group.pending.iter().eq([(&Id::new(3, 0), &entry), (&Id::new(5, 0), &entry)]));
+    assert_eq!(store.run(&read_many("d", 256, 4096)), ids(&[9]));
+    let read = store.clone();
+    assert_eq!(store.run(&read_many("e", 256, 4096)), ids(&[]));
+    assert_eq!(store, read);
+}
+
+#[test]
+fn batch_refusals_lowest_first() {
+    let mut store = store();
+    let bad = |group: &str, consumer: &str, n, room| Command::GroupReadMany {
+        group: name(group),
+        consumer: name(consumer),
+        now: 0,
+        n,
+        room,
+    };
+    refused(&Store::damaged(4096), bad("", "", 257, 0), 2);
+    refused(&store, bad("", "c", 1, 0), 3);
+    refused(&store, bad("g", "", 1, 0), 3);
+    for n in [257, (1 << 32) + 1, u64::MAX] {
+        refused(&store, read_many("c", n, 1 << 20), 3);
+    }
+    refused(&store, read_many("c", 1, 15), 8);
+    refused(&store, read_many("c", 256, 4095), 8);
+    refused(&store, read_many("c", 256, 4096), 9);
+    refused(&store, read_many("c", 0, 0), 9);
+    // 8 also where nothing is new.
+    create(&mut store, "g", Id::GREATEST);
+    refused(&store, read_many("c", 1, 0), 8);
+    assert_eq!(store.run(&read_many("c", 1, 16)), ids(&[]));
+}
+
+/// As many as there are free entries; 12 and 13 where one single read would be refused.
+#[test]
+fn a_batch_for_a_crowded_group() {
+    let mut store = crowded();
+    refused(&store, read_many("new", 1, 16), 12);
+    refused(&store, read_many("c1", 256, 4096), 13);
+    for consumer in ["new", "c1"] {
+        assert_eq!(store.run(&read_many(consumer, 0, 0)), ids(&[]));
+    }
+    add(&mut store, 258, &[(b"a", b"1")]);
+    store.run(&Command::Acknowledge { group: name("g"), id: Id::new(7, 0) });
+    assert_eq!(store.run(&read_many("c1", 2, 32)), ids(&[257]));
+    refused(&store, read_many("c1", 2, 32), 13);
+    store.run(&Command::Delete { id: Id::new(258, 0) });
+    for consumer in ["new", "c1"] {
+        assert_eq!(store.run(&read_many(consumer, 256, 4096)), ids(&[]));
+    }
 }
 
 #[test]
