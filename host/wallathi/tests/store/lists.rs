@@ -61,7 +61,8 @@ fn small_stores() {
     let expected = [0, 3, 4, 5, 6, 7, 8, 9, 10, 12, 14, 16, 17, 32, 33, 34];
     assert!(expected.iter().all(|code| seen.contains(code)), "{codes:?}");
     assert_eq!(fullest, 3);
-    assert!(codes[&0] > codes.values().sum::<usize>() / 2, "{codes:?}");
+    // Long lists on full stores: half of the answers, all but a little, are accepted, and most others are 7.
+    assert!(codes[&0] > codes.values().sum::<usize>() * 2 / 5, "{codes:?}");
 }
 
 #[test]
