@@ -36,10 +36,10 @@ ids-next k ids j h =
     let f : 16 * j + 16 ≡ 16 * (j + 1) = omega arith in
     rw (e, drop-drop 16 (16 * j) ids, f)
 
-pub length-ids : (k : ℕ) (ids : List ℕ) → length (idsIn k ids) ≡ k
+pub ids-count : (k : ℕ) (ids : List ℕ) → length (idsIn k ids) ≡ k
 unfolding idsIn
-length-ids zero ids = refl
-length-ids (suc k) ids = ap suc (length-ids k (drop 16 ids))
+ids-count zero ids = refl
+ids-count (suc k) ids = ap suc (ids-count k (drop 16 ids))
 
 pub ids-none : (c : List ℕ) (now k : ℕ) (ids : List ℕ) (g : Group) → k ≡ 0 → g ≡ deliverAll c now (idsIn k ids) g
 unfolding idsIn deliverAll

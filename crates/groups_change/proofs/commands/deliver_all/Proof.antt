@@ -14,7 +14,7 @@ use Rattle.groups.specs.Bytes.{regionBytes}
 use Rattle.groups.specs.Parse.{groupIn}
 use Rattle.groups.proofs.Laws.{is-name, sound-tested}
 use Rattle.groups_change.specs.Change.{idsIn}
-use Rattle.groups_change.proofs.Batches.{idsFrom, idAt, rowPut, rowsPut, noted, length-ids, ids-none, ids-last, rows-start, rows-next, rows-end, batch-region}
+use Rattle.groups_change.proofs.Batches.{idsFrom, idAt, rowPut, rowsPut, noted, ids-count, ids-none, ids-last, rows-start, rows-next, rows-end, batch-region}
 use Rattle.groups_change.proofs.commands.deliver_all.Statement.{statement}
 use Rattle.groups_change.proofs.commands.deliver_all.Tie as tie
 
@@ -79,5 +79,5 @@ deliver-all-spec =
     c .before .before .note-delivered .ensures
     ∙ ap₂ (λ (s : List ℕ) (i : Id). noted s (n .result + a .k) i)
     (rows-end (m .result) (a .time) (l .region) (n .result) (a .k) ids (l .j) (omega arith) ∙ l .inv .1 ∙ ap (λ (s : List ℕ). rowsPut (m .result) (a .time) s (n .result) (idsIn (a .k) ids)) (m .ensures .2)) (c .before .before .before .read-id2 .ensures)
-    ∙ batch-region (a .consumer .now) (a .time) (m .result) (name (c .before .before .before .before .before .before .before .before .before .before .before .before .before .before .before)) (omega arith) (a .region .now) (x .pre .0) (x .pre .3) (idsIn (a .k) ids) (omega (arith, length-ids (a .k) ids)) (x .pre .6) (n .result) (n .result + a .k) (idAt ids (a .k - 1)) (n .ensures .0) (omega (arith, length-ids (a .k) ids)) (room (c .before .before .before .before .before .before .before .before .before .before .before)) (m .ensures .0)
+    ∙ batch-region (a .consumer .now) (a .time) (m .result) (name (c .before .before .before .before .before .before .before .before .before .before .before .before .before .before .before)) (omega arith) (a .region .now) (x .pre .0) (x .pre .3) (idsIn (a .k) ids) (omega (arith, ids-count (a .k) ids)) (x .pre .6) (n .result) (n .result + a .k) (idAt ids (a .k - 1)) (n .ensures .0) (omega (arith, ids-count (a .k) ids)) (room (c .before .before .before .before .before .before .before .before .before .before .before)) (m .ensures .0)
     (ids-last (a .consumer .now) (a .time) (a .k) ids (groupIn (a .region .now)) (omega arith))))
