@@ -8,7 +8,7 @@
 --   Splices   spliced: its parts
 --   Tested    allZero, same
 --   Ordered   orderOf
-pub use Rattle.octets.proofs.Picks.{pick-by, pick-lt, pick-le, pick-eq}
+pub use Rattle.octets.proofs.Picks.{pick-by, pick-lt, pick-le, pick-eq, by-lower}
 pub use Rattle.octets.proofs.Stages.{needed, answered, some-is, none-mapped, none-is, needed-some}
 pub use Rattle.octets.proofs.Byte.{bytes-nil, bytes-cons, bytes-head, bytes-tail, bytes-take, bytes-drop, bytes-append, bytes-set, bytes-zeros, bytes-area, bytes-put, bytes-le, bytes-be, are-bytes, bytes-are}
 pub use Rattle.octets.proofs.Digits.{length-le, length-be, value-le, le-value, value-le-lt, value-be, be-value, value-be-lt, value-le-zeros, value-be-zeros}

@@ -22,3 +22,7 @@ module _ {A : Type 0} (P : A → Type 0) where
 
   pub pick-eq : (a b : ℕ) (x y : A) → (a ≡ b → P x) → ((a ≡ b → ⊥) → P y) → P (pick (eqb a b) x y)
   pick-eq a b x y p q = pick-by (eqb a b) x y (λ e. p (eqb-true a b e)) (λ e. q (eqb-false a b e))
+
+-- by which of two numbers is the lower
+pub by-lower : {P : Type 0} (a b : ℕ) → (a < b → P) → (b ≤ a → P) → P
+by-lower {P} a b f g = pick-lt (λ (_ : Bool). P) a b true true f g

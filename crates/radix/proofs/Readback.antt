@@ -1,20 +1,20 @@
 -- What is laid is read back: the tree, the marks of its places, and that each place is as it has to be. Assumes nothing.
-use mathlib.Core.Bool.{Bool, true, false}
+use mathlib.Core.Bool.{true}
 use mathlib.Core.Path.{_≡_, refl, sym, ap, ap₂, _∙_, subst}
 use mathlib.Core.List.{List}
 use mathlib.Core.Option.{Option, some, none}
 use Prim.Native.Nat.{ℕ, zero, suc, _+_, _*_, _-_, _≤_, _<_, min}
 use native.Mathlib.Nat.{zero-add, suc-add}
 use native.Mathlib.Omega.{arith}
-use borrow.Author.Tests.{ltb-true, ltb-false, le-leb}
-use lib.Dec.{ltb, eqb}
+use borrow.Author.Tests.{le-leb}
+use lib.Dec.{eqb}
 use lib.ListN.{length, getD, set, take, drop, length-set, length-replicate, getD-replicate, replicate-append-replicate}
 use lib.Seq.{take-all, getD-set-same, getD-set-other, take-take, take-at, drop-at}
 use Rattle.octets.specs.Pick.{pick}
 use Rattle.octets.specs.Maybe.{_>>=_}
 use Rattle.octets.specs.Bytes.{zeros}
 use Rattle.octets.specs.Place.{area}
-use Rattle.octets.proofs.Laws.{zero-all, area-area}
+use Rattle.octets.proofs.Laws.{by-lower, zero-all, area-area}
 use Rattle.radix.specs.Shape.{Shape, nil, node, nodes}
 use Rattle.radix.specs.Record.{Nodes, nodesOf, labelOf, valueOf, treeAt, treeOf, marksFrom, marksOf, isFree, isFlag, isTidy, isPlace, isRoot, areClean, isPlaced}
 use Rattle.keys.specs.Entries.{lengthOf}
@@ -88,13 +88,6 @@ record Marked (x : Nodes) (n k f link : ℕ) (m : List ℕ) : Type 0 where
   inside : (q : ℕ) → n ≤ q → q < n + k → getD out q 0 ≡ 1
   outside : (q : ℕ) → (n ≤ q → q < n + k → ⊥) → getD out q 0 ≡ getD m q 0
 
-pub split : {P : Type 0} (a b : ℕ) → (a < b → P) → (b ≤ a → P) → P
-split {P} a b f g = go (ltb a b) refl
-  where
-    go : (t : Bool) → ltb a b ≡ t → P
-    go true e = f (ltb-true a b e)
-    go false e = g (ltb-false a b e)
-
 -- a place marked, then those below it, then those of its later siblings
 module _ (n k j : ℕ) (m o r : List ℕ) where
   joined-inside : length m ≡ 256 → n + (1 + j + k) ≤ 256
@@ -102,8 +95,8 @@ module _ (n k j : ℕ) (m o r : List ℕ) where
       → ((q : ℕ) → n ≤ q → q < n + k → getD r q 0 ≡ 1) → ((q : ℕ) → (n ≤ q → q < n + k → ⊥) → getD r q 0 ≡ getD o q 0)
       → (q : ℕ) → n ≤ q → q < n + (1 + j + k) → getD r q 0 ≡ 1
   joined-inside l h bi bo ci co q p t =
-      split q (n + k) (λ u. ci q p u)
-      (λ u. co q (λ y w. omega arith) ∙ split q (n + k + j) (λ w. bi q u w)
+      by-lower q (n + k) (λ u. ci q p u)
+      (λ u. co q (λ y w. omega arith) ∙ by-lower q (n + k + j) (λ w. bi q u w)
       (λ w. let e : q ≡ n + k + j = omega arith in bo q (λ y z. omega arith) ∙ ap (λ (i : ℕ). getD (set m (n + k + j) 1) i 0) e ∙ getD-set-same m (n + k + j) 1 0 (omega arith)))
 
   joined-outside : ((q : ℕ) → (n + k ≤ q → q < n + k + j → ⊥) → getD o q 0 ≡ getD (set m (n + k + j) 1) q 0)
@@ -148,8 +141,8 @@ stands-tidy : (s : Shape) (n : ℕ) (x : Nodes) → Stands x n s → Labels s �
 unfolding nodes
 stands-tidy nil n x h g q i j = absurd (omega arith)
 stands-tidy (node l v below later) n x h g q i j =
-    split q (n + nodes later) (λ u. stands-tidy later n x (h .1 .1) (g .1 .1) q i u)
-    (λ u. split q (n + nodes later + nodes below) (λ w. stands-tidy below (n + nodes later) x (h .1 .0) (g .1 .0) q u w)
+    by-lower q (n + nodes later) (λ u. stands-tidy later n x (h .1 .1) (g .1 .1) q i u)
+    (λ u. by-lower q (n + nodes later + nodes below) (λ w. stands-tidy below (n + nodes later) x (h .1 .0) (g .1 .0) q u w)
     (λ w. let e : n + nodes later + nodes below ≡ q = omega arith in subst (λ (p : ℕ). isTidy x p ≡ true) e (tidy-read (h .0) (g .0))))
 
 clean-all : (x : Nodes) (m : List ℕ) (i n : ℕ) → ((p : ℕ) → i ≤ p → p < i + n → isPlace x m p ≡ true) → areClean x m i n ≡ true
@@ -260,8 +253,8 @@ module _ (s : Shape) (l : Labels s) (h : 1 + nodes s ≤ 256) where
   clean : areClean all (marked .out) 0 256 ≡ true
   clean =
       clean-all all (marked .out) 0 256 (λ q i j.
-      split q 1 (λ u. let e : 0 ≡ q = omega arith in subst (λ (p : ℕ). isPlace all (marked .out) p ≡ true) e (rw (mark-0) root-tidy))
-      (λ u. split q (1 + nodes s) (λ w. rw (marked .inside q u w) (stands-tidy s 1 all there l q u w))
+      by-lower q 1 (λ u. let e : 0 ≡ q = omega arith in subst (λ (p : ℕ). isPlace all (marked .out) p ≡ true) e (rw (mark-0) root-tidy))
+      (λ u. by-lower q (1 + nodes s) (λ w. rw (marked .inside q u w) (stands-tidy s 1 all there l q u w))
       (λ w. free-place q w (omega arith))))
 
   pub shape-placed : isPlaced (placeShape s) ≡ true
