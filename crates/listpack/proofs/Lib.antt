@@ -18,5 +18,6 @@ pub mod AtPlace
 pub mod Writes
 pub mod Examples
 pub mod There
+pub mod Stored
 pub mod Lying
 pub mod OneForm

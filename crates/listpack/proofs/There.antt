@@ -12,13 +12,13 @@ use Rattle.octets.specs.Pick.{pick}
 use Rattle.octets.specs.Bytes.{Bytes, leValue}
 use Rattle.octets.specs.Place.{area}
 use Rattle.octets.specs.Maybe.{isNone}
-use Rattle.octets.proofs.Laws.{both-true, bytes-drop, area-drop, length-area, never, pick-by}
+use Rattle.octets.proofs.Laws.{both-true, both-of, bytes-drop, area-drop, length-area, never, pick-by}
 use Rattle.decimal.specs.Text.{textOf}
 use Rattle.listpack.specs.Width.{extend, halfOf}
 use Rattle.listpack.specs.Element.{backLength}
 use Rattle.listpack.specs.Read.{parse, asInteger, closeInteger, integerStands, asText, closeText, textStands, tagWidth, readWide, readBy, readElement}
 use Rattle.listpack.specs.AtPlace.{sizeOf}
-use Rattle.listpack.specs.Known.{ElementAt, stringBy, stringAt, patternIn, sizeAt, patternAt, afterAt, endAt, areThere}
+use Rattle.listpack.specs.Known.{ElementAt, ElementsAt, stringBy, stringAt, patternIn, sizeAt, patternAt, afterAt, endAt, areThere}
 use Rattle.listpack.specs.declared.Element.{Element}
 use Rattle.listpack.specs.declared.Element.the-variants.{Integer, Text, Bad}
 use Rattle.listpack.proofs.Sound.{Sound, sound}
@@ -284,3 +284,22 @@ other-elements (suc n) s at m h e q =
 pub end-none : (n : ℕ) (s : List ℕ) (at : ℕ) → n ≡ 0 → endAt n s at ≡ at
 unfolding endAt
 end-none n s at h = rw h
+
+-- the first k of them, and those after
+pub elements-split : (k n : ℕ) (s : List ℕ) (at : ℕ) → k ≤ n → ElementsAt n s at → (ElementsAt k s at) × (ElementsAt (n - k) s (endAt k s at))
+unfolding areThere endAt
+elements-split zero n s at h e = let z : n - 0 ≡ n = omega arith in (record { there = refl }, rw z e)
+elements-split (suc k) zero s at h e = absurd (omega arith)
+elements-split (suc k) (suc n) s at h e =
+    let z : suc n - suc k ≡ n - k = omega arith in
+    let p = both-true (not (isNone (parse (drop at s)))) (areThere n s (afterAt s at)) (e .there) in
+    let r = elements-split k n s (afterAt s at) (omega arith) (record { there = p .1 }) in
+    (record { there = both-of (p .0) (r .0 .there) }, rw z (r .1))
+
+pub end-split : (k n : ℕ) (s : List ℕ) (at : ℕ) → k ≤ n → endAt (n - k) s (endAt k s at) ≡ endAt n s at
+unfolding endAt
+end-split zero n s at h = let z : n - 0 ≡ n = omega arith in rw z
+end-split (suc k) zero s at h = absurd (omega arith)
+end-split (suc k) (suc n) s at h =
+    let z : suc n - suc k ≡ n - k = omega arith in
+    rw z (end-split k n s (afterAt s at) (omega arith))

@@ -8,6 +8,7 @@ mod known;
 mod read;
 mod size;
 mod strict;
+mod value;
 mod write;
 
 pub use cursor::Cursor;
@@ -29,6 +30,9 @@ pub use strict::Leading;
 pub use strict::is_small;
 pub use strict::read_number;
 pub use strict::strings_end;
+pub use value::Number;
+pub use value::known_number;
+pub use value::known_stored;
 pub use write::put_end;
 pub use write::write_integer;
 pub use write::write_string;
