@@ -19,10 +19,11 @@ use Rattle.groups.specs.Group.{Pending, Group, mostPending}
 use Rattle.groups.specs.Area.{mostGroups}
 use Rattle.groups.specs.Step as Groups
 use Rattle.stream.specs.Ledger.{Ledger}
+use Rattle.stream.specs.Report.{Integers, between, noMessages, reportOn}
 use Rattle.stream.specs.Cut.{freshCut}
 use Rattle.stream.specs.Command as Stream
-use Rattle.stream.specs.Command.{Answer, refused, done, given, counted, written, entry, moved, nothing, absent, notMoved}
-use Rattle.stream.specs.LedgerStep.{LedgerStep, Beside, GroupStep, refuses, leaves, onSetUp, addAs, onAdd, clockId, addFollowing, onAddByClock, onDelete, onTrim, idReply, writes, readReply, valueReply, fieldReply, replyTo, onCreate, onDestroy, delivers, batch, acknowledges, claims, pendingReply, onGroup, nameRefusal, batchRefusal, argumentRefusal, requestRefusal, inLedger, ruled, ledgerStep}
+use Rattle.stream.specs.Command.{Answer, refused, done, given, counted, written, entry, reported, noIntegers, moved, nothing, absent, notMoved}
+use Rattle.stream.specs.LedgerStep.{LedgerStep, Beside, GroupStep, refuses, leaves, onSetUp, addAs, onAdd, clockId, addFollowing, onAddByClock, onDelete, onTrim, idReply, writes, readReply, valueReply, fieldReply, reportBy, reportReply, replyTo, onCreate, onDestroy, delivers, batch, acknowledges, claims, pendingReply, onGroup, nameRefusal, batchRefusal, argumentRefusal, requestRefusal, inLedger, ruled, ledgerStep}
 use Rattle.stream.proofs.Laws.{second-kept, length-ids, length-batch, batch-room, many-by}
 use Rattle.snapshot.specs.Bytes.{snapshotOf}
 use Rattle.snapshot.specs.Command.{Command, onStream, save, load, saveReply}
@@ -35,6 +36,8 @@ Fits room (given i) = Unit {0}
 Fits room (counted n) = Unit {0}
 Fits room (written bs) = length bs ≤ room
 Fits room (entry p lives) = Unit {0}
+Fits room (reported l o x) = Unit {0}
+Fits room (noIntegers l o) = Unit {0}
 Fits room moved = Unit {0}
 Fits room nothing = Unit {0}
 Fits room absent = Unit {0}
@@ -45,6 +48,7 @@ abbrev pub roomIn : Stream.Query → ℕ
 roomIn (Stream.next i) = 0
 roomIn (Stream.read i room) = room
 roomIn (Stream.field i name room) = room
+roomIn (Stream.report name first last) = 0
 
 abbrev pub roomInGroup : Stream.GroupCommand → ℕ
 roomInGroup (Stream.groupRead consumer time) = 0
@@ -102,6 +106,13 @@ query-fits (Stream.field i name room) l = pick-by (Fits room) (leb (length name)
     by : (o : Option Message) → Fits room (fieldReply room name o)
     by none = tt
     by (some m) = value (valueOf name (m .pairs))
+query-fits (Stream.report name first last) l =
+    let r = reportOn name noMessages (between first last (l .messages)) in
+    pick-by (Fits 0) (leb (length name) 1000) (reportReply r) (refused 3) (λ e. by (r .lacking) (r .other) (r .integers)) (λ e. tt)
+  where
+    by : (l o : ℕ) (x : Option Integers) → Fits 0 (reportBy l o x)
+    by l o none = tt
+    by l o (some x) = tt
 
 abbrev FitsGroup : ℕ → GroupStep → Type 0
 FitsGroup room s = Fits room (s .answer)

@@ -1,16 +1,16 @@
 -- What is told of an answer: from the engine's reply to what a C host gets. Assumes nothing.
 use mathlib.Core.Path.{_≡_, refl, sym, ap, ap₂, _∙_, subst}
 use mathlib.Core.Bool.{Bool, true, false}
-use mathlib.Core.List.{List, [], _∷_}
+use mathlib.Core.List.{List, [], _∷_, _++_}
 use mathlib.Core.Option.{Option, some, none}
-use Prim.Native.Nat.{ℕ, zero, suc}
+use Prim.Native.Nat.{ℕ, zero, suc, _+_, _≤_}
 use native.Mathlib.Omega.{arith}
 use lib.Dec.{eqb}
-use lib.ListN.{getD}
+use lib.ListN.{length, getD, List·getD-eq-default}
 use Rattle.octets.specs.Place.{put}
 use Rattle.stream.specs.Cut.{Model, emptyModel, ledgerOf}
 use Rattle.stream.specs.Command as Stream
-use Rattle.stream.specs.Command.{Answer, refused, done, given, counted, written, entry, moved, nothing, absent, notMoved, codeOf}
+use Rattle.stream.specs.Command.{Answer, refused, done, given, counted, written, entry, reported, noIntegers, moved, nothing, absent, notMoved, codeOf}
 use Rattle.stream.specs.Step.{step, besideOf}
 use Rattle.stream.specs.Reply.{replyOf, outputBy, Told, told, tellIn}
 use Rattle.stream.specs.declared.Reply.{Reply}
@@ -66,6 +66,8 @@ code-same (given i) = refl
 code-same (counted n) = refl
 code-same (written bs) = refl
 code-same (entry p lives) = refl
+code-same (reported l o x) = refl
+code-same (noIntegers l o) = refl
 code-same moved = refl
 code-same nothing = refl
 code-same absent = refl
@@ -78,6 +80,8 @@ numbers-same (given i) = refl
 numbers-same (counted n) = refl
 numbers-same (written bs) = refl
 numbers-same (entry p lives) = refl
+numbers-same (reported l o x) = refl
+numbers-same (noIntegers l o) = refl
 numbers-same moved = refl
 numbers-same nothing = refl
 numbers-same absent = refl
@@ -93,6 +97,8 @@ no-output (counted n) h = refl
 no-output (written []) h = refl
 no-output (written (b ∷ bs)) h = absurd (omega arith)
 no-output (entry p lives) h = refl
+no-output (reported l o x) h = refl
+no-output (noIntegers l o) h = refl
 no-output moved h = refl
 no-output nothing h = refl
 no-output absent h = refl
@@ -140,45 +146,21 @@ over-placed [] olds = placed-none 0 olds
 over-placed (n ∷ ns) [] = refl
 over-placed (n ∷ ns) (o ∷ olds) = ap (λ (l : List ℕ). n ∷ l) (over-placed ns olds ∙ placed-more 0 n ns olds)
 
-module _ (ns : List ℕ) (x y : ℕ) {a b : ℕ} (p : a ≡ getD ns 0 x) (q : b ≡ getD ns 1 y) where
-  pub two-numbers : a ∷ (b ∷ []) ≡ over ns (x ∷ (y ∷ []))
-  unfolding placed
-  two-numbers = ap₂ (λ (m n : ℕ). m ∷ (n ∷ [])) p q ∙ sym (over-placed ns (x ∷ (y ∷ [])))
+-- one by one: from the place k on, out-parameters that held `olds` hold these values
+pub data Numbers (ns : List ℕ) : ℕ → List ℕ → List ℕ → Type 0 where
+  no-more : {k : ℕ} → Numbers ns k [] []
+  number : {k a o : ℕ} {olds values : List ℕ} → a ≡ getD ns k o → Numbers ns (suc k) olds values → Numbers ns k (o ∷ olds) (a ∷ values)
 
-  pub five-numbers : (z v w : ℕ) {c d e : ℕ} → c ≡ getD ns 2 z → d ≡ getD ns 3 v → e ≡ getD ns 4 w
-      → a ∷ (b ∷ (c ∷ (d ∷ (e ∷ [])))) ≡ over ns (x ∷ (y ∷ (z ∷ (v ∷ (w ∷ [])))))
-  unfolding placed
-  five-numbers z v w {c} {d} {e} r s t =
-      ap₂ (λ (m n : ℕ). m ∷ (n ∷ (c ∷ (d ∷ (e ∷ []))))) p q
-      ∙ ap₂ (λ (m n : ℕ). getD ns 0 x ∷ (getD ns 1 y ∷ (m ∷ (n ∷ (e ∷ []))))) r s
-      ∙ ap (λ (n : ℕ). getD ns 0 x ∷ (getD ns 1 y ∷ (getD ns 2 z ∷ (getD ns 3 v ∷ (n ∷ []))))) t
-      ∙ sym (over-placed ns (x ∷ (y ∷ (z ∷ (v ∷ (w ∷ []))))))
-
-pub no-numbers : (ns : List ℕ) → [] ≡ over ns []
-no-numbers [] = refl
-no-numbers (n ∷ ns) = refl
-
-pub one-number : (ns : List ℕ) (x : ℕ) {a : ℕ} → a ≡ getD ns 0 x → a ∷ [] ≡ over ns (x ∷ [])
+each-placed : {ns : List ℕ} {k : ℕ} {olds values : List ℕ} → Numbers ns k olds values → values ≡ placed k ns olds
 unfolding placed
-one-number ns x p = ap (λ (n : ℕ). n ∷ []) p ∙ sym (over-placed ns (x ∷ []))
+each-placed no-more = refl
+each-placed (number p q) = ap₂ (λ (n : ℕ) (l : List ℕ). n ∷ l) p (each-placed q)
 
--- a place past the first
-pub past-one : (a old k : ℕ) → (k ≡ 0 → ⊥) → old ≡ getD (a ∷ []) k old
-past-one a old zero h = absurd (h refl)
-past-one a old (suc k) h = refl
+pub numbers : (ns olds : List ℕ) {values : List ℕ} → Numbers ns 0 olds values → values ≡ over ns olds
+numbers ns olds x = each-placed x ∙ sym (over-placed ns olds)
 
--- a place past an ID's numbers, and one of an entry that is an ID's or none's
-module _ (a b old : ℕ) where
-  pub past-id : (k : ℕ) → (k ≡ 0 → ⊥) → (k ≡ 1 → ⊥) → old ≡ getD (a ∷ (b ∷ [])) k old
-  past-id zero h i = absurd (h refl)
-  past-id (suc zero) h i = absurd (i refl)
-  past-id (suc (suc k)) h i = refl
-
-  pub past-entry : (c d e k : ℕ) → (k ≡ 2 → ⊥) → (k ≡ 3 → ⊥) → (k ≡ 4 → ⊥)
-      → getD (a ∷ (b ∷ [])) k old ≡ getD (a ∷ (b ∷ (c ∷ (d ∷ (e ∷ []))))) k old
-  past-entry c d e zero h i j = refl
-  past-entry c d e (suc zero) h i j = refl
-  past-entry c d e (suc (suc zero)) h i j = absurd (h refl)
-  past-entry c d e (suc (suc (suc zero))) h i j = absurd (i refl)
-  past-entry c d e (suc (suc (suc (suc zero)))) h i j = absurd (j refl)
-  past-entry c d e (suc (suc (suc (suc (suc k))))) h i j = refl
+-- a place that is none of those after xs
+pub past : (xs ys : List ℕ) (k old : ℕ) → (length xs ≤ k → length xs + length ys ≤ k) → getD xs k old ≡ getD (xs ++ ys) k old
+past [] ys k old h = sym (List·getD-eq-default ys old (omega (arith, h (omega arith))))
+past (x ∷ xs) ys zero old h = refl
+past (x ∷ xs) ys (suc k) old h = past xs ys k old (λ n. omega (arith, h (omega arith)))

@@ -135,9 +135,11 @@ pub record OneConsumer (g : Group) (p : Pending) : Type 0 where
   pub only : (q : Pending) → List·Memᴰ q (g .pending) → q .id ≡ p .id → q ≡ p
   pub among : isAmong (p .consumer) (g .consumers) ≡ true
 
--- demand 1: a refusal answers its number only, and every byte is kept: out-parameters, output, store and state
+-- demand 1: a refusal answers its number only, and every byte is kept: out-parameters, output, store and state. 35 is no refusal: it is
+-- a report's answer and writes to out-parameters
 pub record Refuses (c : Call) (i : Lent) (s : Seen) (j : Lent) : Type 0 where
-  pub seen-is : s ≡ seen (s .code) (c .values) (c .output)
+  pub seen-is : (s .code ≡ 35 → ⊥) → s ≡ seen (s .code) (c .values) (c .output)
+  pub output-kept : s .output ≡ c .output
   pub kept : j ≡ i
 
 -- demand 1: all calls of a list, set up and load aside, on a store that is no image: 2, and nothing is written

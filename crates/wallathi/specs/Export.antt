@@ -3,7 +3,8 @@ use mathlib.Core.Bool.{Bool, true, false}
 use mathlib.Core.List.{List, [], _∷_}
 use Prim.Native.Nat.{ℕ}
 use lib.ListN.{length}
-use Rattle.stream.specs.Command.{Answer, refused, done, given, counted, written, entry, moved, nothing, absent, notMoved, codeOf}
+use Rattle.stream.specs.Command.{Answer, refused, done, given, counted, written, entry, reported, noIntegers, moved, nothing, absent, notMoved, codeOf}
+use Rattle.stream.specs.Report.{patternBy}
 use Rattle.stream.specs.Reply.{outputBy}
 
 pub record Seen : Type 0 where
@@ -18,7 +19,8 @@ abbrev pub bit : Bool → ℕ
 bit true = 1
 bit false = 0
 
--- what an answer gives in numbers: an ID, a count, the length of what was written, a pending entry and whether its message lives
+-- what an answer gives in numbers: an ID, a count, the length of what was written, a pending entry and whether its message lives, a report:
+-- with no integer four numbers, without smallest and largest
 abbrev pub numbersOf : Answer → List ℕ
 numbersOf (refused n) = []
 numbersOf done = []
@@ -26,6 +28,9 @@ numbersOf (given i) = i .ms ∷ (i .seq ∷ [])
 numbersOf (counted n) = n ∷ []
 numbersOf (written bs) = length bs ∷ []
 numbersOf (entry p lives) = p .id .ms ∷ (p .id .seq ∷ (p .time ∷ (p .count ∷ (bit lives ∷ []))))
+numbersOf (reported l o x) =
+    l ∷ (o ∷ (x .count ∷ (patternBy (x .sum) ∷ (patternBy (x .smallest) ∷ (patternBy (x .largest) ∷ [])))))
+numbersOf (noIntegers l o) = l ∷ (o ∷ (0 ∷ (0 ∷ [])))
 numbersOf moved = []
 numbersOf nothing = []
 numbersOf absent = []

@@ -18,6 +18,8 @@ pub fn code_of(r: Reply) -> u32
         Reply::Counted(_) => 0,
         Reply::Written(_) => 0,
         Reply::Entry { .. } => 0,
+        Reply::Reported { .. } => 0,
+        Reply::NoIntegers { .. } => 35,
         Reply::Moved => 0,
         Reply::Nothing => 32,
         Reply::Absent => 33,
@@ -25,14 +27,14 @@ pub fn code_of(r: Reply) -> u32
     }
 }
 
-fn id_at(id: Id, k: usize, old: u64) -> u64
-    ensures { λ n. ⌜ n ≡ getD (id .ms ∷ (id .seq ∷ [])) k old ⌝ }
+fn pair_at(a: u64, b: u64, k: usize, old: u64) -> u64
+    ensures { λ n. ⌜ n ≡ getD (a ∷ (b ∷ [])) k old ⌝ }
 {
     if k == 0 {
-        return id.ms;
+        return a;
     }
     if k == 1 {
-        return id.seq;
+        return b;
     }
     old
 }
@@ -58,7 +60,40 @@ fn entry_at(id: Id, time: u64, count: u64, lives: bool, k: usize, old: u64) -> u
     if k == 4 {
         return bit(lives);
     }
-    id_at(id, k, old)
+    pair_at(id.ms, id.seq, k, old)
+}
+
+fn counts_at(lacking: u64, other: u64, integers: u64, sum: u64, k: usize, old: u64) -> u64
+    ensures { λ n. ⌜ n ≡ getD (lacking ∷ (other ∷ (integers ∷ (sum ∷ [])))) k old ⌝ }
+{
+    if k == 2 {
+        return integers;
+    }
+    if k == 3 {
+        return sum;
+    }
+    pair_at(lacking, other, k, old)
+}
+
+fn report_at(
+    lacking: u64,
+    other: u64,
+    integers: u64,
+    sum: u64,
+    smallest: u64,
+    largest: u64,
+    k: usize,
+    old: u64,
+) -> u64
+    ensures { λ n. ⌜ n ≡ getD (lacking ∷ (other ∷ (integers ∷ (sum ∷ (smallest ∷ (largest ∷ [])))))) k old ⌝ }
+{
+    if k == 4 {
+        return smallest;
+    }
+    if k == 5 {
+        return largest;
+    }
+    counts_at(lacking, other, integers, sum, k, old)
 }
 
 // The reply's number at that place, or what the out-parameter held.
@@ -68,7 +103,7 @@ fn number_at(r: Reply, k: usize, old: u64) -> u64
     match r {
         Reply::Refused(_) => old,
         Reply::Done => old,
-        Reply::Given(id) => id_at(id, k, old),
+        Reply::Given(id) => pair_at(id.ms, id.seq, k, old),
         Reply::Counted(n) => {
             if k == 0 {
                 return n;
@@ -87,6 +122,15 @@ fn number_at(r: Reply, k: usize, old: u64) -> u64
             count,
             lives,
         } => entry_at(id, time, count, lives, k, old),
+        Reply::Reported {
+            lacking,
+            other,
+            integers,
+            sum,
+            smallest,
+            largest,
+        } => report_at(lacking, other, integers, sum, smallest, largest, k, old),
+        Reply::NoIntegers { lacking, other } => counts_at(lacking, other, 0, 0, k, old),
         Reply::Moved => old,
         Reply::Nothing => old,
         Reply::Absent => old,
@@ -133,5 +177,26 @@ pub fn tell_entry(
     *time = number_at(r, 2, *time);
     *count = number_at(r, 3, *count);
     *lives = number_at(r, 4, *lives);
+    code_of(r)
+}
+
+// A report; with no integer the last two keep what they held.
+pub fn tell_report(
+    r: Reply,
+    lacking: &mut u64,
+    other: &mut u64,
+    integers: &mut u64,
+    sum: &mut u64,
+    smallest: &mut u64,
+    largest: &mut u64,
+) -> u32
+    ensures { λ code. ⌜ Tells r (now (lacking .entry) ∷ (now (other .entry) ∷ (now (integers .entry) ∷ (now (sum .entry) ∷ (now (smallest .entry) ∷ (now (largest .entry) ∷ [])))))) code (now (lacking .exit) ∷ (now (other .exit) ∷ (now (integers .exit) ∷ (now (sum .exit) ∷ (now (smallest .exit) ∷ (now (largest .exit) ∷ [])))))) ⌝ }
+{
+    *lacking = number_at(r, 0, *lacking);
+    *other = number_at(r, 1, *other);
+    *integers = number_at(r, 2, *integers);
+    *sum = number_at(r, 3, *sum);
+    *smallest = number_at(r, 4, *smallest);
+    *largest = number_at(r, 5, *largest);
     code_of(r)
 }

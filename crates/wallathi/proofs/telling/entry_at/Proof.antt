@@ -1,8 +1,10 @@
 -- `entry_at` meets its contract. Assumes nothing.
 use mathlib.Core.Path.{_∙_}
+use mathlib.Core.List.{[], _∷_}
+use native.Mathlib.Omega.{arith}
 use borrow.Author.Needs.{needs}
 use Rattle.wallathi.specs.Export.{bit}
-use Rattle.wallathi.proofs.Told.{past-entry}
+use Rattle.wallathi.proofs.Told.{past}
 use Rattle.wallathi.proofs.telling.entry_at.Statement.{statement}
 use Rattle.wallathi.proofs.telling.entry_at.Tie as tie
 
@@ -17,4 +19,6 @@ entry-at-spec =
     (λ c κs. search needs)
     (λ c.
     let x = c .before .before .before .before .args in
-    c .id-at .ensures ∙ past-entry (x .id .ms) (x .id .seq) (x .old) (x .time) (x .count) (bit (x .lives)) (x .k) (c .before .before .before .if1 .left) (c .before .before .if2 .left) (c .before .if3 .left)))
+    c .pair-at .ensures
+    ∙ past (x .id .ms ∷ (x .id .seq ∷ [])) (x .time ∷ (x .count ∷ (bit (x .lives) ∷ []))) (x .k) (x .old)
+    (λ h. omega (arith, c .before .before .before .if1 .left, c .before .before .if2 .left, c .before .if3 .left))))

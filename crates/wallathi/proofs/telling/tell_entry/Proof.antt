@@ -1,7 +1,8 @@
 -- `tell_entry` meets its contract. Assumes nothing.
+use mathlib.Core.List.{[], _∷_}
 use borrow.Author.Needs.{needs}
 use Rattle.wallathi.specs.Telling.{numbersBy}
-use Rattle.wallathi.proofs.Told.{five-numbers}
+use Rattle.wallathi.proofs.Told.{numbers, number, no-more}
 use Rattle.wallathi.proofs.telling.tell_entry.Statement.{statement}
 use Rattle.wallathi.proofs.telling.tell_entry.Tie as tie
 
@@ -20,5 +21,11 @@ tell-entry-spec =
     record {
       code-is = c .code-of .ensures;
       values-are =
-          five-numbers (numbersBy (x .r)) (x .ms .now) (x .seq .now) (c .before .before .before .before .before .before .before .before .before .number-at .ensures) (c .before .before .before .before .before .before .before .number-at2 .ensures) (x .time .now) (x .count .now) (x .lives .now) (c .before .before .before .before .before .number-at3 .ensures) (c .before .before .before .number-at4 .ensures) (c .before .number-at5 .ensures);
+          numbers (numbersBy (x .r))
+          (x .ms .now ∷ (x .seq .now ∷ (x .time .now ∷ (x .count .now ∷ (x .lives .now ∷ [])))))
+          (number (c .before .before .before .before .before .before .before .before .before .number-at .ensures)
+          (number (c .before .before .before .before .before .before .before .number-at2 .ensures)
+          (number (c .before .before .before .before .before .number-at3 .ensures)
+          (number (c .before .before .before .number-at4 .ensures)
+          (number (c .before .number-at5 .ensures) no-more)))));
     }))
