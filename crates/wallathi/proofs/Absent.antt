@@ -25,7 +25,7 @@ use Rattle.wallathi.proofs.Turns.{does-turn}
 use Rattle.wallathi.proofs.Refused.{refused-keeps}
 
 -- a query is answered from the ledger that the store holds
-query-seen : (q : Query) (values output : List ℕ) (i j : Lent) (s : Seen) (l : Ledger) → Does (tellTo values output) (onStream (asks q)) i s j
+pub query-seen : (q : Query) (values output : List ℕ) (i j : Lent) (s : Seen) (l : Ledger) → Does (tellTo values output) (onStream (asks q)) i s j
     → ledgerBy i ≡ some l → s ≡ tellTo values output (replyTo q l)
 query-seen q values output i j s l d e = by (heldBy i) e (does-turn (tellTo values output) i j s (onStream (asks q)) d .told-is)
   where

@@ -9,6 +9,7 @@ use Rattle.wallathi.proofs.Possible as possible
 use Rattle.wallathi.proofs.Refused as refusals
 use Rattle.wallathi.proofs.Absent as lacking
 use Rattle.wallathi.proofs.Batches as batches
+use Rattle.wallathi.proofs.Reports as reports
 
 pub demands : Demands
 demands =
@@ -24,6 +25,8 @@ demands =
       absent-field = lacking.absent-field;
       batch-exact = batches.batch-exact;
       batch-in-list = batches.batch-in-list;
+      report-exact = reports.report-exact;
+      report-parts = reports.report-parts;
       refused-keeps = refusals.refused-keeps;
       damaged = λ cs i k ss m e h. damages.damaged m e h;
       fresh-run = possible.fresh-run;

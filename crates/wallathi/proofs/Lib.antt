@@ -18,4 +18,5 @@ pub mod Absent
 pub mod OneImage
 pub mod Joins
 pub mod Batches
+pub mod Reports
 pub mod Demands

@@ -11,7 +11,8 @@ use lib.ListN.{length, take, drop, getD}
 use Rattle.octets.specs.Pick.{pick}
 use Rattle.octets.specs.Bytes.{Bytes}
 use Rattle.id.specs.declared.Id.{Id}
-use Rattle.id.specs.Id.{Fits64}
+use Rattle.id.specs.declared.Following.the-variants.{Next}
+use Rattle.id.specs.Id.{Fits64, below, atMost, followingOf}
 use Rattle.node.specs.Message.{Message}
 use Rattle.node.specs.Step.{findMessage, valueOf}
 use Rattle.groups.specs.Group.{Pending, Group, isAmong, mostPending}
@@ -19,7 +20,8 @@ use Rattle.groups.specs.Step.{findGroup}
 use Rattle.stream.specs.Ledger.{Ledger, emptyLedger, isLedger}
 use Rattle.stream.specs.Cut.{Node, Model, modelOf, ledgerOf, isModel, freshCut}
 use Rattle.stream.specs.Command as Stream
-use Rattle.stream.specs.Command.{GroupCommand, groupRead, groupReadMany, acknowledge, claim, nextPending, dropConsumer, setUp, add, addByClock, delete, trim, createGroup, destroyGroup, asks, inGroup, field, Answer}
+use Rattle.stream.specs.Command.{GroupCommand, groupRead, groupReadMany, acknowledge, claim, nextPending, dropConsumer, setUp, add, addByClock, delete, trim, createGroup, destroyGroup, asks, inGroup, field, report, Answer}
+use Rattle.stream.specs.Report.{between, patternBy, Integers, Report, noMessages, reportOn, countsOf, Exact, joined}
 use Rattle.stream.specs.LedgerStep.{idsAfter, idsBytes}
 use Rattle.stream.specs.Laid.{Laid}
 use Rattle.stream.specs.Run.{Turn, run, answers}
@@ -27,7 +29,7 @@ use Rattle.stream.specs.Promise.{Lent, heldBy, slotsOf, tailOf}
 use Rattle.snapshot.specs.Bytes.{snapshotOf}
 use Rattle.snapshot.specs.Command.{Command, onStream, save, load, loaded, heals, stepOf}
 use Rattle.snapshot.specs.Ledger.{ledgerTurn, besideTurn}
-use Rattle.wallathi.specs.Export.{Seen, seen, tellTo}
+use Rattle.wallathi.specs.Export.{Seen, seen, over, tellTo}
 use Rattle.wallathi.specs.Run.{Call, call, plain, commandOf, AreBytes, Meets, Made}
 
 -- the plain ledger with the cut beside it
@@ -183,6 +185,37 @@ pub record InPlace (out : List ℕ) (x : Seen) (first later ts : List Seen) : Ty
   pub sees : x ≡ seen 0 (16 * length ids ∷ []) (idsBytes ids ++ drop (16 * length ids) out)
   pub seen-are : ts ≡ first ++ (seenIds ids ++ later)
 
+-- 02, CR 2: the report of a ledger; the call for it, its out-parameters holding `olds`; and what is seen of it: with no integer 35 and
+-- four numbers, so that smallest and largest keep what they held
+abbrev pub reportIn : List ℕ → Id → Id → Ledger → Report
+reportIn name first last l = reportOn name noMessages (between first last (l .messages))
+
+abbrev pub reportCall : List ℕ → Id → Id → List ℕ → Call
+reportCall name first last olds = plain (asks (report name first last)) olds
+
+abbrev pub countsSeen : List ℕ → ℕ → ℕ → Option Integers → Seen
+countsSeen olds lacking other none = seen 35 (over (lacking ∷ (other ∷ (0 ∷ (0 ∷ [])))) olds) []
+countsSeen olds lacking other (some x) =
+    seen 0 (over (lacking ∷ (other ∷ (x .count ∷ (patternBy (x .sum) ∷ (patternBy (x .smallest) ∷ (patternBy (x .largest) ∷ [])))))) olds) []
+
+abbrev pub reportSeen : List ℕ → Report → Seen
+reportSeen olds r = countsSeen olds (r .lacking) (r .other) (r .integers)
+
+-- a report on a store i that holds the ledger l: every message of the range is in one of the three counts; the sum is at most
+-- 6,400,000,000,000 from 0, and what is seen of it, of the smallest and of the largest stands for just that number
+pub record Reports (name : List ℕ) (first last : Id) (olds : List ℕ) (l : Ledger) (i : Lent) (s : Seen) (j : Lent) : Type 0 where
+  pub sees : s ≡ reportSeen olds (reportIn name first last l)
+  pub kept : j ≡ i
+  pub counts : countsOf (reportIn name first last l) ≡ length (between first last (l .messages))
+  pub exact : (x : Integers) → reportIn name first last l .integers ≡ some x → Exact x
+  pub empty : below last first ≡ true → between first last (l .messages) ≡ []
+
+-- three reports on a store that holds l: from a to b, from the ID d that follows b to c, and from a to c, which is the two joined
+pub record Joins (name : List ℕ) (a b c d : Id) (l : Ledger) (xs ys zs : List ℕ) (s t u : Seen) : Type 0 where
+  pub first-sees : s ≡ reportSeen xs (reportIn name a b l)
+  pub second-sees : t ≡ reportSeen ys (reportIn name d c l)
+  pub whole-sees : u ≡ reportSeen zs (joined (reportIn name a b l) (reportIn name d c l))
+
 -- arguments as C can pass them: IDs and times of 64 bits, bytes (of names and files this is known by what the commands test)
 abbrev pub PassesGroup : GroupCommand → Type 0
 PassesGroup (groupRead consumer time) = time < 2 ^ 64
@@ -274,8 +307,18 @@ pub record Demands : Type 0 where
       → Made (cs ++ (readMany name consumer time n len out ∷ ds)) i ss k → Meets (plain setUp []) j₀ t j → t .code ≡ 0
       → Made (cs ++ (singleReads name consumer time olds ++ ds)) j ts l → (p : SeenAt cs x ss) → x .code ≡ 0 → x .values ≡ 16 * length olds ∷ []
       → InPlace out x (p .first) (p .later) ts × (heldBy k ≡ heldBy l)
+  -- "For a field name and an ID range, report over the live messages in it, ends included: how many lack the field, how many hold, in the
+  -- first pair of that name, something other .., how many hold such an integer, and of these the sum, smallest and largest. With none
+  -- there is no smallest or largest, and the answer says so"; "a first above the last means an empty range" (02, CR 2): on any store that
+  -- holds a ledger, reached or handed in, of which every byte is kept
+  pub report-exact : (i j : Lent) (s : Seen) (name : List ℕ) (first last : Id) (olds : List ℕ) (l : Ledger) → Meets (reportCall name first last olds) i s j
+      → ledgerBy i ≡ some l → length name ≤ 1000 → Reports name first last olds l i s j
+  -- and the reports over two halves of a range add up to the report over the whole
+  pub report-parts : (i j k n : Lent) (s t u : Seen) (name : List ℕ) (a b c d : Id) (xs ys zs : List ℕ) (l : Ledger)
+      → Meets (reportCall name a b xs) i s j → Meets (reportCall name d c ys) i t k → Meets (reportCall name a c zs) i u n → ledgerBy i ≡ some l
+      → length name ≤ 1000 → followingOf b ≡ Next d → atMost a b ≡ true → atMost b c ≡ true → Joins name a b c d l xs ys zs s t u
   -- "Whatever document 01 refuses .. gets that document's number, and the store and the output keep all their bytes": whatever a call
-  -- answers but 0, so none, nothing new, absent and not moved (32, 33, 34) too
+  -- answers but 0, so none, nothing new, absent and not moved (32, 33, 34) too; of 35 `report-exact` says which numbers are written
   pub refused-keeps : (c : Call) (i j : Lent) (s : Seen) → Meets c i s j → 1 ≤ s .code → Refuses c i s j
   -- ".. damaged stores included where it says so": a store that is no image, until it is set up or loaded
   pub damaged : (cs : List Call) (i k : Lent) (ss : List Seen) → Made cs i ss k → heldBy i ≡ none → NoneHeals cs → (ss ≡ twos cs) × (k ≡ i)
