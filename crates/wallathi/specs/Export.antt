@@ -19,8 +19,8 @@ abbrev pub bit : Bool → ℕ
 bit true = 1
 bit false = 0
 
--- what an answer gives in numbers: an ID, a count, the length of what was written, a pending entry and whether its message lives, a report:
--- with no integer four numbers, without smallest and largest
+-- what an answer gives in numbers: an ID, a count, the length of what was written, a pending entry and whether its message lives,
+-- a report; with no integer the first four of a report's
 abbrev pub numbersOf : Answer → List ℕ
 numbersOf (refused n) = []
 numbersOf done = []
