@@ -1,8 +1,8 @@
-// What is asked of the messages: next, read, field.
+// What is asked of the messages: next, read, field, report.
 
 ghost use mathlib.Core.List.{[], _∷_};
 ghost use Rattle.id.specs.Id.{idOf};
-ghost use Rattle.stream.specs.Command.{asks, next, read, field};
+ghost use Rattle.stream.specs.Command.{asks, next, read, field, report};
 ghost use Rattle.stream.specs.Promise.{lent};
 ghost use Rattle.wallathi.specs.Export.{seen};
 ghost use Rattle.wallathi.specs.Run.{call, plain, Meets};
@@ -62,4 +62,31 @@ pub extern "C" fn wallathi_field(
     known(store);
     known(state);
     telling::tell_number(r, len)
+}
+
+// Signed numbers are told by their 64-bit patterns.
+#[no_mangle]
+pub extern "C" fn wallathi_report(
+    store: &[u8],
+    state: &State,
+    name: &[u8],
+    first_ms: u64,
+    first_seq: u64,
+    last_ms: u64,
+    last_seq: u64,
+    lacking: &mut u64,
+    other: &mut u64,
+    integers: &mut u64,
+    sum: &mut u64,
+    smallest: &mut u64,
+    largest: &mut u64,
+) -> u32
+    ensures { λ r. ⌜ Meets (plain (asks (report (now (name .entry)) (idOf «first_ms» «first_seq») (idOf «last_ms» «last_seq»))) (now (lacking .entry) ∷ (now (other .entry) ∷ (now (integers .entry) ∷ (now (sum .entry) ∷ (now (smallest .entry) ∷ (now (largest .entry) ∷ []))))))) (lent (now (store .entry)) (now (state .entry))) (seen r (now (lacking .exit) ∷ (now (other .exit) ∷ (now (integers .exit) ∷ (now (sum .exit) ∷ (now (smallest .exit) ∷ (now (largest .exit) ∷ [])))))) []) (lent (now (store .entry)) (now (state .entry))) ⌝ }
+{
+    let first = Id::new(first_ms, first_seq);
+    let last = Id::new(last_ms, last_seq);
+    let r = stream_report::report(store, state, name, first, last);
+    known(store);
+    known(state);
+    telling::tell_report(r, lacking, other, integers, sum, smallest, largest)
 }
