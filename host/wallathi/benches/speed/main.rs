@@ -122,7 +122,7 @@ struct Bench {
 impl Bench {
     fn new(fill: &Fill) -> Bench {
         let fresh = Lent::image(&fill.model(), LENGTH);
-        Bench { lent: fresh.clone(), fresh, values: [0; 5], output: vec![0; ROOM] }
+        Bench { lent: fresh.clone(), fresh, values: [0; 6], output: vec![0; ROOM] }
     }
 
     fn copy(&mut self) {
