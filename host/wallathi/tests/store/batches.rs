@@ -118,8 +118,8 @@ fn free_entries_and_consumers() {
 /// Whether a message is deleted, by its number.
 type IsGone = fn(u64) -> bool;
 
-/// Stores of four nodes 7-1 to 7-400 from which some are deleted.
-fn thinned() -> Vec<(&'static str, Beside)> {
+/// A store of four nodes 7-1 to 7-400, from which some are deleted.
+pub fn thinned(store: &Store) -> Vec<(&'static str, Beside)> {
     let kinds: [(&str, IsGone); 6] = [
         ("none", |_| false),
         ("some of each node", |seq| seq % 3 == 0),
@@ -129,7 +129,7 @@ fn thinned() -> Vec<(&'static str, Beside)> {
         ("all but the last of the last node", |seq| seq < 400),
     ];
     let delete = |is_gone: IsGone| {
-        let mut store = store_with(4, BTreeMap::new());
+        let mut store = store.clone();
         assert_eq!(store.model.as_ref().expect("an image").ledger.last_id, Id::new(7, 400));
         for seq in (1..=400).filter(|&seq| is_gone(seq)) {
             assert_eq!(store.run(&Command::Delete { id: Id::new(7, seq) }), Answer::Count(1));
@@ -145,7 +145,7 @@ fn last_delivered_at_every_kind_of_place() {
     let seqs = [0, 1, 2, 50, 99, 100, 101, 102, 150, 200, 201, 299, 300, 301, 350, 398, 399, 400, 401];
     let starts = seqs.into_iter().map(|seq| Id::new(7, seq));
     let starts: Vec<Id> = starts.chain([Id::LEAST, Id::new(6, 400), Id::new(8, 0), Id::GREATEST]).collect();
-    for (kind, mut beside) in thinned() {
+    for (kind, mut beside) in thinned(&store_with(4, BTreeMap::new())) {
         for &start in &starts {
             for n in [1, 99, 100, 101, 256] {
                 let expected = ids(beside.model().ledger.above(start).take(n as usize));
@@ -161,7 +161,7 @@ fn last_delivered_at_every_kind_of_place() {
 /// Batches until nothing is new: each message once, in order, whatever the batches' sizes.
 #[test]
 fn batches_one_after_another() {
-    for (kind, mut beside) in thinned() {
+    for (kind, mut beside) in thinned(&store_with(4, BTreeMap::new())) {
         for n in [1, 7, 100, 256] {
             let mut left: Vec<Id> = beside.model().ledger.messages.keys().copied().collect();
             beside.create("g", Id::LEAST);
