@@ -11,7 +11,7 @@ use wallathi_model::rng::Rng;
 
 use crate::amount;
 use crate::beside::{run_damaged, Beside};
-use crate::damage::{image_of, others, Sweep};
+use crate::damage::{image_of, two_nodes, Sweep};
 use crate::groups::{beside_with, filled, store_with};
 use crate::lent::{RECORD, REGIONS};
 use crate::limits::{name, one};
@@ -273,14 +273,9 @@ fn stores_without_messages() {
     }
 }
 
-/// A batch for each of these bytes, which is changed; answers how often the bytes were an image then, and how often not.
-fn swept(sweep: Sweep, places: impl Iterator<Item = usize>) -> (usize, usize) {
-    let mut rng = Rng::new(9_001);
-    let mut sweep = sweep.by(read_many("g", "new", 50, 800));
-    for at in places {
-        sweep.change(at, |good| others(&mut rng, good, amount(1, 4)));
-    }
-    (sweep.images, sweep.damaged)
+/// A batch where a byte is changed.
+fn swept(sweep: fn(Store, u64) -> Sweep, places: impl Iterator<Item = usize>) -> (usize, usize) {
+    sweep(store_to_damage(), 0).each(read_many("g", "new", 50, 800), places)
 }
 
 /// A group in the middle of the messages, for which a few entries are free.
@@ -289,12 +284,9 @@ fn store_to_damage() -> Store {
     store_with(2, [(name("g"), group)].into())
 }
 
-/// The bytes of both nodes, and some of the zeros after them.
 #[test]
 fn bytes_of_the_store() {
-    let nodes = (0..1_100).chain(SLOT..SLOT + 1_100);
-    let places = nodes.chain((1_100..2 * SLOT).step_by(amount(97, 1)));
-    let (images, damaged) = swept(Sweep::of_store(store_to_damage(), 0), places);
+    let (images, damaged) = swept(Sweep::of_store, two_nodes(1_100));
     assert!(images > 100 && damaged > 1_000, "{images} {damaged}");
 }
 
@@ -305,6 +297,6 @@ fn bytes_of_the_state() {
     let index = (RECORD..REGIONS).step_by(amount(19, 1));
     let region = (REGIONS..used).step_by(amount(2, 1));
     let places = (0..RECORD).chain(region).chain(index);
-    let (images, damaged) = swept(Sweep::of_state(store_to_damage(), 0), places);
+    let (images, damaged) = swept(Sweep::of_state, places);
     assert!(images > 200 && damaged > 500, "{images} {damaged}");
 }

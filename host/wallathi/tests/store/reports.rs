@@ -1,17 +1,17 @@
 //! The channel report (02, CR 2): values and names of every form, ranges that end at every kind of place, each limit from both sides, both
 //! refusals, damaged bytes.
 
+use wallathi::raw::STATE_BYTES;
 use wallathi_model::id::Id;
 use wallathi_model::ledger::{Answer, Command, Report, Store};
 use wallathi_model::message::Message;
-use wallathi_model::rng::Rng;
 
 use crate::amount;
 use crate::batches::thinned;
 use crate::beside::Beside;
-use crate::damage::{image_of, others, Sweep};
+use crate::damage::{image_of, two_nodes, Sweep};
 use crate::every_byte::store_of;
-use crate::lent::{Lent, RECORD, REGIONS};
+use crate::lent::{Lent, RECORD};
 use crate::limits::{far_apart, full, message, one};
 use crate::nodes::small_node;
 use crate::sides::{self, Call, Values};
@@ -357,27 +357,13 @@ fn store_to_damage() -> Store {
     store
 }
 
-/// A report for each of these bytes, which is changed; answers how often the bytes were an image then, and how often not.
-fn swept(sweep: Sweep, places: impl Iterator<Item = usize>) -> (usize, usize) {
-    let mut rng = Rng::new(9_101);
-    let mut sweep = sweep.by(report(b"t", Id::new(7, 20), Id::new(7, 180)));
-    for at in places {
-        sweep.change(at, |good| others(&mut rng, good, amount(1, 4)));
-    }
-    (sweep.images, sweep.damaged)
-}
-
+/// A report for each byte of the nodes, of the last ID, and some of the index and of the groups.
 #[test]
-fn bytes_of_the_store() {
-    let nodes = (0..1_500).chain(SLOT..SLOT + 1_500);
-    let places = nodes.chain((1_500..2 * SLOT).step_by(amount(97, 1)));
-    let (images, damaged) = swept(Sweep::of_store(store_to_damage(), 0), places);
-    assert!(images > 100 && damaged > 1_000, "{images} {damaged}");
-}
-
-#[test]
-fn bytes_of_the_state() {
-    let rest = (RECORD..REGIONS + 9 * SLOT).step_by(amount(41, 1));
-    let (images, damaged) = swept(Sweep::of_state(store_to_damage(), 0), (0..RECORD).chain(rest));
-    assert!(images > 5 && damaged > 500, "{images} {damaged}");
+fn each_byte_changed() {
+    let (store, command) = (store_to_damage(), report(b"t", Id::new(7, 20), Id::new(7, 180)));
+    let (images, damaged) = Sweep::of_store(store.clone(), 0).each(command.clone(), two_nodes(1_620));
+    assert!(images > 400 && damaged > 2_000, "{images} {damaged}");
+    let rest = (RECORD..STATE_BYTES).step_by(amount(61, 1));
+    let (images, damaged) = Sweep::of_state(store, 0).each(command, (0..RECORD).chain(rest));
+    assert!(images > 10 && damaged > 800, "{images} {damaged}");
 }
