@@ -7,7 +7,7 @@
 
 #include "wallathi.h"
 
-enum { STORE = 1, FIRST = 2, SECOND = 4, OUTPUT = 8, ALL = 15, LOAD = 18, COMMANDS };
+enum { STORE = 1, FIRST = 2, SECOND = 4, OUTPUT = 8, ALL = 15, LOAD = 19, COMMANDS };
 
 struct slice {
     uint8_t *at;
@@ -18,6 +18,7 @@ struct slice {
 struct lent {
     uint8_t store[2 * WALLATHI_SLOT_BYTES], state[WALLATHI_STATE_BYTES], output[8192];
     uint64_t values[5];
+    int64_t numbers[3];
 };
 
 static struct lent fresh, used, with_null, with_empty;
@@ -45,11 +46,13 @@ static const unsigned taken[COMMANDS] = {
     STORE | OUTPUT,           /* save */
     ALL,                      /* group read of a batch that the output holds */
     ALL,                      /* the same of one message */
+    STORE | FIRST,            /* report */
     STORE | FIRST,            /* load */
 };
 
-/* The command with these slices: the store, a slip, name, group or file, a consumer, the output. */
-static uint32_t call(int command, uint8_t *state, struct slice s, struct slice f, struct slice c, struct slice o, uint64_t *v)
+/* The command with these slices: the store, a slip, name, group or file, a consumer, the output. Its numbers go to v and, with a sign, w. */
+static uint32_t call(int command, uint8_t *state, struct slice s, struct slice f, struct slice c, struct slice o, uint64_t *v,
+                     int64_t *w)
 {
     switch (command) {
     case 0: return wallathi_set_up(s.at, s.length, state);
@@ -73,6 +76,8 @@ static uint32_t call(int command, uint8_t *state, struct slice s, struct slice f
     case 17:
         return wallathi_group_read_many(s.at, s.length, state, f.at, f.length, c.at, c.length, 1, command == 16 ? o.length / 32 : 1, o.at,
                                         o.length, v);
+    case 18:
+        return wallathi_report(s.at, s.length, state, f.at, f.length, 0, 0, 9, 9, v, v + 1, v + 2, w, w + 1, w + 2);
     default: return wallathi_load(s.at, s.length, state, f.at, f.length);
     }
 }
@@ -103,7 +108,7 @@ static uint32_t call_without(int command, unsigned without, uint8_t *empty, stru
     }
     return call(command, lent->state, either(STORE, without, empty, lent->store, sizeof lent->store),
                 either(FIRST, without, empty, first.at, first.length), either(SECOND, without, empty, name, sizeof name - 1),
-                either(OUTPUT, without, empty, lent->output, sizeof lent->output), lent->values);
+                either(OUTPUT, without, empty, lent->output, sizeof lent->output), lent->values, lent->numbers);
 }
 
 /* Whether NULL is as good as another place; counts the calls that are answered all the same. */

@@ -1,6 +1,6 @@
 /*
- * A logger at a station: readings go into a store that lives in bytes of this program, two workers take them from a group, and a snapshot
- * moves all of it to another store. From the repository:
+ * A logger at a station: readings go into a store that lives in bytes of this program, a report counts them, two workers take them from a
+ * group, and a snapshot moves all of it to another store. From the repository:
  *
  *     cc -std=c99 -Ihost/include host/readings.c target/staticlib/libwallathi.a -o readings
  */
@@ -97,6 +97,24 @@ static void list(void)
     }
 }
 
+/* A channel in exact numbers, over all messages. */
+static void report(const char *field)
+{
+    uint64_t lacking, other, integers;
+    int64_t sum, smallest, largest;
+    uint32_t answer = wallathi_report(store, sizeof store, state, (const uint8_t *)field, strlen(field), 0, 0, UINT64_MAX, UINT64_MAX,
+                                      &lacking, &other, &integers, &sum, &smallest, &largest);
+
+    if (answer != WALLATHI_OK && answer != WALLATHI_NO_INTEGERS) {
+        printf("no report: %s\n", word(answer));
+        return;
+    }
+    printf("%s: lacking %u, other %u, integers %u", field, (unsigned)lacking, (unsigned)other, (unsigned)integers);
+    if (answer == WALLATHI_OK)
+        printf(": sum %d, smallest %d, largest %d", (int)sum, (int)smallest, (int)largest);
+    printf("\n");
+}
+
 /* A worker of the group takes the next reading. */
 static void take(const char *worker, uint64_t now)
 {
@@ -158,6 +176,8 @@ int main(void)
     reading(1250, "431", "clipped");
     reading(900, "15", "the clock went back");
     list();
+    report("amplitude");
+    report("note");
     printf("group: %s\n", word(wallathi_create_group(store, sizeof store, state, (const uint8_t *)"picks", 5, 0, 0)));
     take("Mere", 2000);
     take("Tane", 2010);

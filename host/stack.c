@@ -13,7 +13,7 @@
 
 #define PATTERN 0xB7
 #define STACK (1 << 20)
-#define COMMANDS 18
+#define COMMANDS 19
 #define KEY_BYTES 16
 
 /* Of the index in the state (docs/FORMAT.md). */
@@ -31,10 +31,11 @@ static uint8_t store[64 * WALLATHI_SLOT_BYTES], state[WALLATHI_STATE_BYTES];
 static uint8_t copy[64 * WALLATHI_SLOT_BYTES], copied_state[WALLATHI_STATE_BYTES];
 static uint8_t output[WALLATHI_LONGEST_SNAPSHOT], file[WALLATHI_LONGEST_SNAPSHOT];
 static uint8_t stack[STACK];
-static uint8_t slip[1 + 3 * (4 + 1 + 700)];
+static uint8_t slip[1 + 3 * (4 + 1 + 700) + 4 + 1 + 1];
 static size_t slip_length;
 static struct id new_id, old_id;
 static uint64_t file_length, a, b, c, d, e;
+static int64_t sum, smallest, largest;
 static int command;
 static uint32_t answer;
 static ucontext_t here, there;
@@ -64,25 +65,37 @@ static void run(void)
     case 14: answer = wallathi_drop_consumer(copy, n, copied_state, group, 5, consumer, 8, &a); break;
     case 15: answer = wallathi_save(copy, n, copied_state, output, sizeof output, &a); break;
     case 16: answer = wallathi_group_read_many(copy, n, copied_state, new_group, 5, consumer, 8, 7, 256, output, sizeof output, &a); break;
+    case 17:
+        answer = wallathi_report(copy, n, copied_state, (const uint8_t *)"d", 1, 0, 0, UINT64_MAX, UINT64_MAX, &a, &b, &c, &sum,
+                                 &smallest, &largest);
+        break;
     default: answer = wallathi_load(copy, n, copied_state, file, (size_t)file_length); break;
     }
 }
 
-/* A message of three values of this length. */
+/* Adds a pair to the slip: a field of one letter, and a value of one byte so many times. */
+static void put_pair(char field, char byte, size_t length)
+{
+    uint8_t *at = slip + slip_length;
+    at[0] = 1;
+    at[1] = 0;
+    at[2] = (uint8_t)field;
+    at[3] = (uint8_t)(length % 256);
+    at[4] = (uint8_t)(length / 256);
+    memset(at + 5, byte, length);
+    slip_length += 5 + length;
+    slip[0]++;
+}
+
+/* A message of three texts of this length and an integer. */
 static void make_slip(size_t length)
 {
-    int pair;
-    slip[0] = 3;
+    slip[0] = 0;
     slip_length = 1;
-    for (pair = 0; pair < 3; pair++) {
-        slip[slip_length] = 1;
-        slip[slip_length + 1] = 0;
-        slip[slip_length + 2] = (uint8_t)('a' + pair);
-        slip[slip_length + 3] = (uint8_t)(length % 256);
-        slip[slip_length + 4] = (uint8_t)(length / 256);
-        memset(slip + slip_length + 5, 'x', length);
-        slip_length += 5 + length;
-    }
+    put_pair('a', 'x', length);
+    put_pair('b', 'x', length);
+    put_pair('c', 'x', length);
+    put_pair('d', '7', 1);
 }
 
 static void add(struct id id)

@@ -1,4 +1,5 @@
-/* Any bytes as commands, arguments, store, state and file: no call may crash, and a call that does not answer 0 may change nothing.
+/* Any bytes as commands, arguments, store, state and file: no call may crash, and a call that does not answer 0 may change nothing, but for
+ * four numbers of a report over no integer.
  *
  * With clang: clang -fsanitize=fuzzer -Iinclude fuzz/fuzz.c fuzz/stores.c libwallathi.a. The library has no counters of its own, so what it answers and
  * what the store is like afterwards is counted here, where libFuzzer looks (`struct trace`): an input that brings something new is kept.
@@ -12,7 +13,7 @@
 #include "start.h"
 #include "wallathi.h"
 
-enum { OUT_BYTES = 40000, VALUES = 5, LOAD = 18, COMMANDS, ANSWERS = 64, SIZES = 65 };
+enum { OUT_BYTES = 40000, VALUES = 5, LOAD = 19, COMMANDS, ANSWERS = 64, SIZES = 65 };
 
 /* Of a group's region in the state (docs/FORMAT.md). */
 enum { REGIONS_AT = 6674, REGION_BYTES = 7220, CONSUMERS_AT = 33, PENDING_AT = 306, GROUPS = 8 };
@@ -21,6 +22,7 @@ enum { REGIONS_AT = 6674, REGION_BYTES = 7220, CONSUMERS_AT = 33, PENDING_AT = 3
 struct lent {
     uint8_t store[STORE_BYTES], state[WALLATHI_STATE_BYTES], out[OUT_BYTES];
     uint64_t values[VALUES];
+    int64_t sum, smallest, largest;
 };
 
 static struct lent now, before;
@@ -128,7 +130,7 @@ static uint32_t call(struct input *in, unsigned command)
 {
     size_t m, n, room = (size_t)number(in, 2) % (OUT_BYTES + 1), size = store_length;
     const uint8_t *a, *b;
-    uint64_t *v = now.values, x, y;
+    uint64_t *v = now.values, x, y, last_x, last_y;
     switch (command) {
     case 0:
         return number(in, 1) % 8 == 0 ? wallathi_set_up(now.store, size, now.state) : 0;
@@ -177,6 +179,10 @@ static uint32_t call(struct input *in, unsigned command)
     case 16:
         a = name(in, &m), b = name(in, &n), x = half(in), y = half(in) + number(in, 1) % 2;
         return wallathi_group_read_many(now.store, size, now.state, a, m, b, n, x, y, now.out, room, v);
+    case 17:
+        a = name(in, &m), x = half(in), y = half(in), last_x = half(in), last_y = half(in);
+        return wallathi_report(now.store, size, now.state, a, m, x, y, number(in, 1) % 2 == 0 ? UINT64_MAX : last_x, last_y, v, v + 1,
+                               v + 2, &now.sum, &now.smallest, &now.largest);
     default:
         return wallathi_save(now.store, size, now.state, now.out, room, v);
     }
@@ -286,6 +292,17 @@ static void trace_store(void)
     trace.groups[groups] = 1;
 }
 
+/* Whether a call that gave this answer has changed what it may not change. */
+static int changed(uint32_t code)
+{
+    if (code == WALLATHI_NO_INTEGERS) {
+        memcpy(before.values, now.values, 2 * sizeof now.values[0]);
+        before.values[2] = 0;
+        before.sum = 0;
+    }
+    return code != 0 && memcmp(&now, &before, sizeof now) != 0;
+}
+
 int LLVMFuzzerTestOneInput(const uint8_t *data, size_t size)
 {
     struct input in = {data, size};
@@ -302,7 +319,7 @@ int LLVMFuzzerTestOneInput(const uint8_t *data, size_t size)
         memcpy(&before, &now, sizeof before);
         command = kind % 16 == 1 ? LOAD : (unsigned)number(&in, 1) % LOAD;
         code = command == LOAD ? load(&in) : call(&in, command);
-        if (code != 0 && memcmp(&now, &before, sizeof now) != 0) {
+        if (changed(code)) {
             fprintf(stderr, "fuzz: a call answered %lu and changed something\n", (unsigned long)code);
             abort();
         }
@@ -404,7 +421,7 @@ int main(int argc, char **argv)
         size_t size = make_input(data);
         LLVMFuzzerTestOneInput(data, size);
     }
-    printf("%ld inputs: no crash, and nothing changed by a call that did not answer 0\n", rounds);
+    printf("%ld inputs: no crash, and nothing changed that an answer says is kept\n", rounds);
     return 0;
 }
 #endif

@@ -14,8 +14,9 @@
  * keep the rules are refused as damaged, never followed. Bytes changed into those of other such messages are no damage.
  *
  * Each function answers one of the numbers below. If several refusals apply, the lowest is answered. Out-parameters and output are
- * written only with WALLATHI_OK; what is written to the output starts it, and the bytes after that stay. Unless the answer is
- * WALLATHI_OK, no byte is changed: not of store and state, not of the output, not of an out-parameter.
+ * written only with WALLATHI_OK, and four numbers of a report with WALLATHI_NO_INTEGERS too; what is written to the output starts it, and
+ * the bytes after that stay. But for these four numbers, no byte is changed unless the answer is WALLATHI_OK: not of store and state, not
+ * of the output, not of an out-parameter.
  *
  * A slice is a pointer and a length; a length of 0 goes with any pointer, NULL too, for every slice of every function. No other pointer
  * may be NULL, and each must point to all of its bytes, of any alignment. Store, state, output and out-parameters that a call may change
@@ -110,6 +111,8 @@ extern "C" {
 #define WALLATHI_ABSENT 33
 /* the claim moved nothing */
 #define WALLATHI_NOT_MOVED 34
+/* the report is over no integer: lacking, other, integers and sum are written, smallest and largest are not */
+#define WALLATHI_NO_INTEGERS 35
 
 /* How many bytes a state has. */
 uint64_t wallathi_state_bytes(void);
@@ -167,6 +170,19 @@ uint32_t wallathi_read(const uint8_t *store, size_t store_length, const uint8_t 
  */
 uint32_t wallathi_field(const uint8_t *store, size_t store_length, const uint8_t *state, uint64_t ms, uint64_t seq, const uint8_t *name,
                         size_t name_length, uint8_t *output, size_t output_length, uint64_t *written);
+
+/*
+ * Reports on one channel in exact numbers: what the live messages from the first ID to the last, both included, hold in their first pair
+ * with this field name, which has 0 to 1,000 bytes. Each message is in one of three counts: lacking, where it does not have the field;
+ * integers, where the value is an integer from -1,000,000,000 to 1,000,000,000 (0, or an optional minus and a digit 1 to 9 followed by
+ * digits); other, where it is anything else: a text, nothing, 007, -0, +1, an integer beyond. Of the integers it gives the sum, the
+ * smallest and the largest. A first above the last is an empty range.
+ * WALLATHI_OK (there is an integer), WALLATHI_NO_INTEGERS (integers and sum are 0 then, smallest and largest keep what they held), or the
+ * refusals 2 and 3.
+ */
+uint32_t wallathi_report(const uint8_t *store, size_t store_length, const uint8_t *state, const uint8_t *name, size_t name_length,
+                         uint64_t first_ms, uint64_t first_seq, uint64_t last_ms, uint64_t last_seq, uint64_t *lacking, uint64_t *other,
+                         uint64_t *integers, int64_t *sum, int64_t *smallest, int64_t *largest);
 
 /*
  * Creates a group. What comes after the start ID is delivered to it; 0-0 begins with the oldest message. The start may lie above the

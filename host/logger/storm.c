@@ -1,5 +1,5 @@
 /* A simulated storm, end to end: three stations log for three hours, an analyst reads along, the file goes to a second institute, and the
- * eastern curve is drawn with its gaps. `storm FOLDER` leaves everything in FOLDER. */
+ * eastern channel is reported in exact numbers and drawn with its gaps. `storm FOLDER` leaves everything in FOLDER. */
 #include <inttypes.h>
 #include <math.h>
 #include <stdio.h>
@@ -193,6 +193,19 @@ static void damage(void)
     }
 }
 
+/* The eastern channel in exact numbers: beside the mean stands how many seconds are missing from it, and what it would be if a zero were
+ * averaged in for each. */
+static void report(void)
+{
+    uint64_t lacking, other, integers;
+    int64_t sum, smallest, largest;
+    must("report", wallathi_report(ours.store, sizeof ours.store, ours.state, bytes_of("east"), 4, 0, 0, UINT64_MAX, UINT64_MAX, &lacking, &other, &integers, &sum, &smallest, &largest));
+    printf("report      east: lacking %" PRIu64 ", other %" PRIu64 ", integers %" PRIu64 ", sum %" PRId64 ", smallest %" PRId64 ", largest %" PRId64 "\n",
+           lacking, other, integers, sum, smallest, largest);
+    printf("            mean %.2f over %" PRIu64 " samples, with %" PRIu64 " missing; a zero for each of these would make it %.2f\n",
+           (double)sum / (double)integers, integers, lacking, (double)sum / (double)(integers + lacking));
+}
+
 /* The samples of the messages that the store holds, by second, and the same as a table: an absent sample is an empty cell. */
 static size_t read_back(const char *path, int *first)
 {
@@ -267,6 +280,7 @@ int main(int argc, char **argv)
     log_storm();
     compare(argv[1]);
     damage();
+    report();
     draw(argv[1]);
     return 0;
 }

@@ -29,6 +29,7 @@ static const char *const texts[] = {
     [WALLATHI_NONE] = "there is none",
     [WALLATHI_ABSENT] = "the message lacks the field",
     [WALLATHI_NOT_MOVED] = "not moved",
+    [WALLATHI_NO_INTEGERS] = "no message of the report holds an integer in its range",
 };
 
 const char *wallathi_refusal_text(uint32_t code)

@@ -2,7 +2,7 @@
 
 use crate::groups::{Group, MOST_BATCH};
 use crate::id::Id;
-use crate::ledger::{Command, Ledger, Store};
+use crate::ledger::{Command, Ledger, Store, LARGEST_REPORTED};
 use crate::message::{Message, Name};
 use crate::node::{self, Node};
 use crate::rng::Rng;
@@ -21,7 +21,8 @@ fn field(rng: &mut Rng) -> Vec<u8> {
 /// A string of a message: an integer, short bytes, or now and then up to 1,000 bytes.
 fn string(rng: &mut Rng) -> Vec<u8> {
     match rng.below(20) {
-        0..=7 => {
+        0 => end_of_reports(rng),
+        1..=7 => {
             let pattern = rng.next() >> rng.below(64);
             crate::decimal::text_of_pattern(if rng.one_in(3) { pattern.wrapping_neg() } else { pattern })
         }
@@ -38,6 +39,12 @@ fn string(rng: &mut Rng) -> Vec<u8> {
             rng.bytes(length)
         }
     }
+}
+
+/// The largest or the smallest integer that a report takes, or the first beyond it.
+fn end_of_reports(rng: &mut Rng) -> Vec<u8> {
+    let end = LARGEST_REPORTED + rng.below(2) as i64;
+    crate::decimal::text(if rng.one_in(2) { end } else { -end })
 }
 
 /// A message that keeps its rule; it may be too long for a node.
@@ -185,8 +192,25 @@ impl Commands {
             507..=536 => Command::Next { id: self.id(ledger) },
             537..=576 => Command::Read { id: self.id(ledger), room: self.room() },
             577..=616 => Command::Field { id: self.id(ledger), name: self.field_name(), room: self.room() },
+            617..=646 => self.report(ledger),
             _ => self.group_command(ledger),
         }
+    }
+
+    /// Mostly of a name that a live message has, and over a range that is not empty.
+    fn report(&mut self, ledger: &Ledger) -> Command {
+        let message = ledger.messages.get(&self.id(ledger));
+        let name = match message {
+            Some(pairs) if !self.rng.one_in(4) => self.rng.pick(pairs).0.clone(),
+            _ => self.field_name(),
+        };
+        let (one, other) = (self.id(ledger), self.id(ledger));
+        let (first, last) = match self.rng.below(6) {
+            0..=1 => (Id::LEAST, Id::GREATEST),
+            2 => (one, other),
+            _ => (one.min(other), one.max(other)),
+        };
+        Command::Report { name, first, last }
     }
 
     fn group_command(&mut self, ledger: &Ledger) -> Command {

@@ -1,6 +1,7 @@
-//! An independent model of the message store: document 01 ("The exact rules") as plain Rust.
+//! An independent model of the message store: document 01 ("The exact rules") as plain Rust, with
+//! the requests of 02.
 //!
-//! It is written from 01 and from no other definition, so that the proved store can be compared
+//! It is written from these papers and from no other definition, so that the proved store can be compared
 //! with it. Clarity comes before speed: a strict reader decodes its bytes, encodes the result
 //! again and compares. Bytes are accepted exactly when they are the encoding of some value that
 //! keeps its rules.

@@ -178,6 +178,30 @@ pub fn integer_at(bytes: &[u8], at: usize) -> (i64, usize) {
     }
 }
 
+/// So many bytes there.
+#[inline(always)]
+fn bytes_at<const N: usize>(bytes: &[u8], at: usize) -> [u8; N] {
+    bytes[at..at + N].try_into().expect("as many")
+}
+
+/// The integer of a string that is in order, none where it is a text, and the place after it. Values are long integers more often than
+/// differences are, so each form is read by itself.
+#[inline(always)]
+pub fn value_at(bytes: &[u8], at: usize) -> (Option<i64>, usize) {
+    match bytes[at] {
+        0x80..=0xBF | 0xE0..=0xEF => (None, at + element_size(&bytes[at..])),
+        0xF1 => (Some(i64::from(i16::from_le_bytes(bytes_at(bytes, at + 1)))), at + 4),
+        // 24 bits, with the byte before them, which is shifted out.
+        0xF2 => (Some(i64::from(i32::from_le_bytes(bytes_at(bytes, at)) >> 8)), at + 5),
+        0xF3 => (Some(i64::from(i32::from_le_bytes(bytes_at(bytes, at + 1)))), at + 6),
+        0xF4 => (Some(i64::from_le_bytes(bytes_at(bytes, at + 1))), at + 10),
+        _ => {
+            let (integer, next) = integer_at(bytes, at);
+            (Some(integer), next)
+        }
+    }
+}
+
 /// The size of an integer's element.
 #[inline]
 pub fn integer_size(number: i64) -> usize {

@@ -29,8 +29,8 @@ pub use raw::STATE_BYTES;
 pub use refusal::Refusal;
 pub use slip::{Pairs, SlipRef, LONGEST_STRING, MOST_PAIRS};
 pub use store::{
-    Borrowed, Pending, PendingEntries, Store, LARGEST_BATCH, LONGEST_SLIP, LONGEST_SNAPSHOT, MOST_SLOTS,
-    SLOT_BYTES,
+    Borrowed, Integers, Pending, PendingEntries, Report, Store, LARGEST_BATCH, LONGEST_SLIP,
+    LONGEST_SNAPSHOT, MOST_SLOTS, SLOT_BYTES,
 };
 
 #[cfg(feature = "alloc")]

@@ -1,8 +1,8 @@
 //! The functions of the C library on lent slices, one for one. All `unsafe` code of this crate is here.
 //!
-//! Each answers [`OK`], [`NONE`], [`ABSENT`], [`NOT_MOVED`] or the number of a refusal (`host/include/wallathi.h` has them), and
-//! changes nothing unless it answers [`OK`]; an answer that is not looked at is lost. A state has [`STATE_BYTES`] bytes. The numbers that a command gives are written to
-//! `values`, in the header's order.
+//! Each answers [`OK`], [`NONE`], [`ABSENT`], [`NOT_MOVED`], [`NO_INTEGERS`] or the number of a refusal (`host/include/wallathi.h` has
+//! them), and changes nothing unless it answers [`OK`], but for the four numbers that [`NO_INTEGERS`] goes with; an answer that is not
+//! looked at is lost. A state has [`STATE_BYTES`] bytes. The numbers that a command gives are written to `values`, in the header's order.
 
 /// Answered, done, moved: what is lent to be written is written.
 pub const OK: u32 = 0;
@@ -12,6 +12,8 @@ pub const NONE: u32 = 32;
 pub const ABSENT: u32 = 33;
 /// The claim moved nothing.
 pub const NOT_MOVED: u32 = 34;
+/// The report is over no integer: counts and sum are written, smallest and largest are not.
+pub const NO_INTEGERS: u32 = 35;
 /// The size of a state.
 pub const STATE_BYTES: usize = 64_434;
 
@@ -89,6 +91,23 @@ mod c {
             output: *mut u8,
             output_length: usize,
             written: *mut u64,
+        ) -> u32;
+        pub fn wallathi_report(
+            store: *const u8,
+            store_length: usize,
+            state: *const u8,
+            name: *const u8,
+            name_length: usize,
+            first_ms: u64,
+            first_seq: u64,
+            last_ms: u64,
+            last_seq: u64,
+            lacking: *mut u64,
+            other: *mut u64,
+            integers: *mut u64,
+            sum: *mut i64,
+            smallest: *mut i64,
+            largest: *mut i64,
         ) -> u32;
         pub fn wallathi_create_group(
             store: *const u8,
@@ -332,6 +351,45 @@ pub fn field(
             output.as_mut_ptr(),
             output.len(),
             written,
+        )
+    }
+}
+
+/// Counts what the live messages from one ID to another hold in the first pair of this name: how many lack it, how many hold something
+/// else than an integer from -1,000,000,000 to 1,000,000,000, how many such an integer; and the sum, the smallest and the largest of
+/// these.
+#[must_use]
+#[allow(clippy::too_many_arguments)]
+pub fn report(
+    store: &[u8],
+    state: &State,
+    name: &[u8],
+    first_ms: u64,
+    first_seq: u64,
+    last_ms: u64,
+    last_seq: u64,
+    counts: &mut [u64; 3],
+    values: &mut [i64; 3],
+) -> u32 {
+    let ([lacking, other, integers], [sum, smallest, largest]) = (counts, values);
+    // SAFETY: see above.
+    unsafe {
+        c::wallathi_report(
+            store.as_ptr(),
+            store.len(),
+            state.as_ptr(),
+            name.as_ptr(),
+            name.len(),
+            first_ms,
+            first_seq,
+            last_ms,
+            last_seq,
+            lacking,
+            other,
+            integers,
+            sum,
+            smallest,
+            largest,
         )
     }
 }

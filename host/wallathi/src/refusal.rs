@@ -103,6 +103,6 @@ mod tests {
             assert_eq!(refusal.number() as usize, place + 1);
             assert_eq!(Refusal::from_number(refusal.number()), Some(refusal));
         }
-        assert_eq!([0, 18, 32, 33, 34].map(Refusal::from_number), [None; 5]);
+        assert_eq!([0, 18, 32, 33, 34, 35].map(Refusal::from_number), [None; 6]);
     }
 }

@@ -1,6 +1,7 @@
 //! The store: commands on bytes that are owned or borrowed.
 
 use core::borrow::{Borrow, BorrowMut};
+use core::ops::RangeInclusive;
 
 #[cfg(feature = "alloc")]
 use alloc::{boxed::Box, vec, vec::Vec};
@@ -65,6 +66,30 @@ pub struct Pending {
     pub count: u64,
     /// Whether its message lives.
     pub lives: bool,
+}
+
+/// What the messages of a range hold under one name ([`Store::report`]). Each message is in one of the three counts.
+#[derive(Clone, Copy, Debug, PartialEq, Eq)]
+pub struct Report {
+    /// How many messages have no pair of that name: seconds without a sample, say. They are no zeros, and in no other number here.
+    pub lacking: u64,
+    /// How many hold something else than an integer from -1,000,000,000 to 1,000,000,000: a text, an empty value, an integer beyond.
+    pub other: u64,
+    /// Those that hold such an integer; none where no message does.
+    pub integers: Option<Integers>,
+}
+
+/// The integers of a report. All four numbers are exact.
+#[derive(Clone, Copy, Debug, PartialEq, Eq)]
+pub struct Integers {
+    /// How many, 1 at least.
+    pub count: u64,
+    /// Their sum.
+    pub sum: i64,
+    /// The smallest.
+    pub smallest: i64,
+    /// The largest.
+    pub largest: i64,
 }
 
 /// The answer of a code: 0, or a refusal. Codes of "none" are taken apart before.
@@ -190,6 +215,38 @@ impl<S: Borrow<[u8]>, T: Borrow<State>> Store<S, T> {
         let code =
             raw::field(self.store.borrow(), self.state.borrow(), id.ms, id.seq, name, out, &mut length);
         found(code, raw::ABSENT, length_of(length))
+    }
+
+    /// Counts what the live messages of a range, both ends included, hold in their first pair of that name. A range whose start is above
+    /// its end has no messages. Store and state are judged once, however many messages there are.
+    ///
+    /// ```
+    /// use wallathi::{Id, Integers, Owned, Slip};
+    /// let mut store = Owned::new(1)?;
+    /// store.add_by_clock(1_000, &Slip::of([("west", "-3"), ("east", "12")])?)?;
+    /// store.add_by_clock(2_000, &Slip::of([("west", "-5")])?)?; // the eastern station gave no sample
+    /// store.add_by_clock(3_000, &Slip::of([("west", "-4"), ("east", "0")])?)?;
+    /// store.add_by_clock(4_000, &Slip::of([("west", "clipped"), ("east", "-2")])?)?;
+    /// let east = store.report(b"east", Id::LEAST..=Id::GREATEST)?;
+    /// assert_eq!((east.lacking, east.other), (1, 0));
+    /// assert_eq!(east.integers, Some(Integers { count: 3, sum: 10, smallest: -2, largest: 12 }));
+    /// let late = store.report(b"west", Id::new(4_000, 0)..=Id::new(4_999, u64::MAX))?;
+    /// assert_eq!((late.lacking, late.other, late.integers), (0, 1, None)); // no smallest, no largest
+    /// # Ok::<(), wallathi::Refusal>(())
+    /// ```
+    ///
+    /// # Errors
+    ///
+    /// [`Refusal::Damaged`]; [`Refusal::BadArgument`] for a name of over 1,000 bytes.
+    pub fn report(&self, name: &[u8], range: RangeInclusive<Id>) -> Result<Report, Refusal> {
+        let (first, last) = range.into_inner();
+        let (mut counts, mut values) = ([0; 3], [0; 3]);
+        let (store, state) = (self.store.borrow(), self.state.borrow());
+        let code =
+            raw::report(store, state, name, first.ms, first.seq, last.ms, last.seq, &mut counts, &mut values);
+        let ([lacking, other, count], [sum, smallest, largest]) = (counts, values);
+        let integers = found(code, raw::NO_INTEGERS, Integers { count, sum, smallest, largest })?;
+        Ok(Report { lacking, other, integers })
     }
 
     /// The live messages from an ID on, in rising order. A refusal ends it.

@@ -33,6 +33,7 @@ fn sizes_and_answers() {
         ("NONE", u64::from(raw::NONE)),
         ("ABSENT", u64::from(raw::ABSENT)),
         ("NOT_MOVED", u64::from(raw::NOT_MOVED)),
+        ("NO_INTEGERS", u64::from(raw::NO_INTEGERS)),
     ] {
         assert_eq!(constants.get(name), Some(&number), "{name}");
     }

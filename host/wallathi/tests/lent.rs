@@ -1,6 +1,8 @@
 //! The crate without an allocator: a store, slips and answers in lent bytes.
 
-use wallathi::{Borrowed, Id, Pending, Refusal, SlipRef, ID_BYTES, LONGEST_SLIP, SLOT_BYTES, STATE_BYTES};
+use wallathi::{
+    Borrowed, Id, Integers, Pending, Refusal, SlipRef, ID_BYTES, LONGEST_SLIP, SLOT_BYTES, STATE_BYTES,
+};
 
 #[test]
 fn a_store_in_lent_bytes() {
@@ -17,6 +19,8 @@ fn a_store_in_lent_bytes() {
     assert_eq!(out[0], b'0');
     assert_eq!(store.field_into(id, b"middle", &mut out), Ok(None));
     assert_eq!(store.field_into(id, b"west", &mut out[..3]), Err(Refusal::ShortOutput));
+    let west = Integers { count: 1, sum: -120, smallest: -120, largest: -120 };
+    assert_eq!(store.report(b"west", id..=id).unwrap().integers, Some(west));
     store.create_group(b"curves", Id::LEAST).unwrap();
     assert_eq!(store.group_read(b"curves", b"analyst", 9), Ok(Some(id)));
     let entry = Pending { id, time: 9, count: 1, lives: true };

@@ -1,7 +1,9 @@
 //! The safe crate, as a Rust user meets it.
 #![cfg(feature = "alloc")]
 
-use wallathi::{Borrowed, Id, Owned, Pending, Refusal, Slip, ID_BYTES, SLOT_BYTES, STATE_BYTES};
+use wallathi::{
+    Borrowed, Id, Integers, Owned, Pending, Refusal, Report, Slip, ID_BYTES, SLOT_BYTES, STATE_BYTES,
+};
 
 fn slip(field: &str, value: &str) -> Slip {
     Slip::of([(field, value)]).unwrap()
@@ -81,6 +83,26 @@ fn batches() {
 }
 
 #[test]
+fn reports() {
+    let mut store = Owned::new(2).unwrap();
+    for (ms, value) in [(1, "5"), (2, "-7"), (3, "clipped"), (4, "1000000000"), (5, "1000000001")] {
+        store.add_by_clock(ms, &slip("east", value)).unwrap();
+    }
+    store.add_by_clock(6, &slip("west", "0")).unwrap();
+    let over = |name: &[u8], first, last| store.report(name, Id::new(first, 0)..=Id::new(last, 0));
+    let integers = Integers { count: 3, sum: 999_999_998, smallest: -7, largest: 1_000_000_000 };
+    assert_eq!(over(b"east", 0, 9), Ok(Report { lacking: 1, other: 2, integers: Some(integers) }));
+    assert_eq!(over(b"east", 5, 6), Ok(Report { lacking: 1, other: 1, integers: None }));
+    let zero = Integers { count: 1, sum: 0, smallest: 0, largest: 0 };
+    assert_eq!(over(b"west", 0, 9), Ok(Report { lacking: 5, other: 0, integers: Some(zero) }));
+    let empty = Report { lacking: 0, other: 0, integers: None };
+    assert_eq!(over(b"east", 3, 2), Ok(empty));
+    assert_eq!(store.report(b"", Id::LEAST..=Id::GREATEST).unwrap().lacking, 6);
+    assert_eq!(over(&[b'x'; 1_000], 3, 2), Ok(empty));
+    assert_eq!(over(&[b'x'; 1_001], 3, 2), Err(Refusal::BadArgument));
+}
+
+#[test]
 fn save_and_load_in_borrowed_bytes() {
     let mut store = Owned::new(3).unwrap();
     store.add_by_clock(7, &slip("east", "-3")).unwrap();
@@ -89,6 +111,7 @@ fn save_and_load_in_borrowed_bytes() {
     let mut state = [255; STATE_BYTES];
     let mut other = Borrowed::from_parts(&mut bytes[..], &mut state);
     assert_eq!(other.next(Id::LEAST), Err(Refusal::Damaged));
+    assert_eq!(other.report(b"east", Id::LEAST..=Id::GREATEST), Err(Refusal::Damaged));
     assert_eq!(other.load(&file[1..]), Err(Refusal::NoSnapshot));
     other.load(&file).unwrap();
     assert_eq!(other.save().unwrap(), file);

@@ -4,6 +4,8 @@ use crate::id::Id;
 use crate::message::Name;
 use crate::refusal::Refusal;
 
+use super::Report;
+
 /// A command with its arguments. `room` is the length of the output.
 #[derive(Clone, Debug, PartialEq, Eq)]
 pub enum Command {
@@ -15,6 +17,7 @@ pub enum Command {
     Next { id: Id },
     Read { id: Id, room: usize },
     Field { id: Id, name: Vec<u8>, room: usize },
+    Report { name: Vec<u8>, first: Id, last: Id },
     CreateGroup { group: Name, start: Id },
     DestroyGroup { group: Name },
     GroupRead { group: Name, consumer: Name, now: u64 },
@@ -37,6 +40,7 @@ pub enum Answer {
     Count(u64),
     /// Read, field, save, batch reading: what starts the output.
     Written(Vec<u8>),
+    Report(Report),
     /// Claim.
     Moved,
     /// Next pending.
@@ -64,6 +68,7 @@ impl Answer {
             Answer::NoneFound | Answer::NothingNew => 32,
             Answer::Absent => 33,
             Answer::NotMoved => 34,
+            Answer::Report(report) if report.integers == 0 => 35,
             Answer::Refused(number) => *number,
             _ => 0,
         }
@@ -75,7 +80,7 @@ impl Answer {
         match (command, self) {
             (Command::GroupReadMany { .. }, Answer::Written(ids)) => ids.is_empty(),
             (Command::DropConsumer { .. }, Answer::Count(_)) => false,
-            (Command::Next { .. }, _) => true,
+            (Command::Next { .. } | Command::Report { .. }, _) => true,
             (_, Answer::Count(0) | Answer::Written(_) | Answer::Pending { .. }) => true,
             _ => self.code() != 0,
         }
@@ -94,6 +99,8 @@ mod tests {
         assert_eq!(Answer::NothingNew.code(), 32);
         assert_eq!(Answer::Absent.code(), 33);
         assert_eq!(Answer::NotMoved.code(), 34);
+        assert_eq!(Answer::Report(Report { integers: 1, ..Report::default() }).code(), 0);
+        assert_eq!(Answer::Report(Report { other: 1, ..Report::default() }).code(), 35);
         assert_eq!(Answer::Refused(7).code(), 7);
     }
 }

@@ -18,7 +18,7 @@ use std::time::Instant;
 use lent::Lent;
 use measure::{grouped, median, ratio, Benchmark, Table};
 use sides::{Call, Values};
-use stores::{reading, Fill, FILLS, LENGTH};
+use stores::{reading, Fill, Shape, FILLS, LENGTH};
 use wallathi_model::groups::MOST_BATCH;
 use wallathi_model::id::Id;
 use wallathi_model::ledger::{Command, Store};
@@ -41,10 +41,17 @@ fn rows(fill: &Fill) -> Vec<Row> {
     let judgement = ("judgement", vec![Command::CreateGroup { group: vec![], start: Id::LEAST }]);
     let others = if fill.is_for_batches() {
         batches(fill)
+    } else if fill.shape != Shape::Readings {
+        vec![("report", vec![report_of(fill)])]
     } else {
         commands(fill).into_iter().map(|(name, command)| (name, vec![command])).collect()
     };
     [vec![judgement], others].concat()
+}
+
+/// A report over all messages.
+fn report_of(fill: &Fill) -> Command {
+    Command::Report { name: fill.shape.channel(), first: Id::LEAST, last: Id::GREATEST }
 }
 
 /// A batch, and beside it as many single reads, of groups that have been given nothing, half of the messages, all but as many.
@@ -79,6 +86,7 @@ fn commands(fill: &Fill) -> Vec<(&'static str, Command)> {
         ("next", Command::Next { id: middle }),
         ("read", Command::Read { id: middle, room: ROOM }),
         ("field", Command::Field { id: middle, name: b"note".to_vec(), room: ROOM }),
+        ("report", report_of(fill)),
         ("group read", Command::GroupRead { group: open.clone(), consumer: consumer.clone(), now }),
         (
             "batch of 256",
@@ -122,7 +130,7 @@ struct Bench {
 impl Bench {
     fn new(fill: &Fill) -> Bench {
         let fresh = Lent::image(&fill.model(), LENGTH);
-        Bench { lent: fresh.clone(), fresh, values: [0; 5], output: vec![0; ROOM] }
+        Bench { lent: fresh.clone(), fresh, values: [0; 6], output: vec![0; ROOM] }
     }
 
     fn copy(&mut self) {

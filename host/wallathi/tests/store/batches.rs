@@ -11,7 +11,7 @@ use wallathi_model::rng::Rng;
 
 use crate::amount;
 use crate::beside::{run_damaged, Beside};
-use crate::damage::{image_of, others, Sweep};
+use crate::damage::{image_of, two_nodes, Sweep};
 use crate::groups::{beside_with, filled, store_with};
 use crate::lent::{RECORD, REGIONS};
 use crate::limits::{name, one};
@@ -118,8 +118,8 @@ fn free_entries_and_consumers() {
 /// Whether a message is deleted, by its number.
 type IsGone = fn(u64) -> bool;
 
-/// Stores of four nodes 7-1 to 7-400 from which some are deleted.
-fn thinned() -> Vec<(&'static str, Beside)> {
+/// A store of four nodes 7-1 to 7-400, from which some are deleted.
+pub fn thinned(store: &Store) -> Vec<(&'static str, Beside)> {
     let kinds: [(&str, IsGone); 6] = [
         ("none", |_| false),
         ("some of each node", |seq| seq % 3 == 0),
@@ -129,7 +129,7 @@ fn thinned() -> Vec<(&'static str, Beside)> {
         ("all but the last of the last node", |seq| seq < 400),
     ];
     let delete = |is_gone: IsGone| {
-        let mut store = store_with(4, BTreeMap::new());
+        let mut store = store.clone();
         assert_eq!(store.model.as_ref().expect("an image").ledger.last_id, Id::new(7, 400));
         for seq in (1..=400).filter(|&seq| is_gone(seq)) {
             assert_eq!(store.run(&Command::Delete { id: Id::new(7, seq) }), Answer::Count(1));
@@ -145,7 +145,7 @@ fn last_delivered_at_every_kind_of_place() {
     let seqs = [0, 1, 2, 50, 99, 100, 101, 102, 150, 200, 201, 299, 300, 301, 350, 398, 399, 400, 401];
     let starts = seqs.into_iter().map(|seq| Id::new(7, seq));
     let starts: Vec<Id> = starts.chain([Id::LEAST, Id::new(6, 400), Id::new(8, 0), Id::GREATEST]).collect();
-    for (kind, mut beside) in thinned() {
+    for (kind, mut beside) in thinned(&store_with(4, BTreeMap::new())) {
         for &start in &starts {
             for n in [1, 99, 100, 101, 256] {
                 let expected = ids(beside.model().ledger.above(start).take(n as usize));
@@ -161,7 +161,7 @@ fn last_delivered_at_every_kind_of_place() {
 /// Batches until nothing is new: each message once, in order, whatever the batches' sizes.
 #[test]
 fn batches_one_after_another() {
-    for (kind, mut beside) in thinned() {
+    for (kind, mut beside) in thinned(&store_with(4, BTreeMap::new())) {
         for n in [1, 7, 100, 256] {
             let mut left: Vec<Id> = beside.model().ledger.messages.keys().copied().collect();
             beside.create("g", Id::LEAST);
@@ -273,14 +273,9 @@ fn stores_without_messages() {
     }
 }
 
-/// A batch for each of these bytes, which is changed; answers how often the bytes were an image then, and how often not.
-fn swept(sweep: Sweep, places: impl Iterator<Item = usize>) -> (usize, usize) {
-    let mut rng = Rng::new(9_001);
-    let mut sweep = sweep.by(read_many("g", "new", 50, 800));
-    for at in places {
-        sweep.change(at, |good| others(&mut rng, good, amount(1, 4)));
-    }
-    (sweep.images, sweep.damaged)
+/// A batch where a byte is changed.
+fn swept(sweep: fn(Store, u64) -> Sweep, places: impl Iterator<Item = usize>) -> (usize, usize) {
+    sweep(store_to_damage(), 0).each(read_many("g", "new", 50, 800), places)
 }
 
 /// A group in the middle of the messages, for which a few entries are free.
@@ -289,12 +284,9 @@ fn store_to_damage() -> Store {
     store_with(2, [(name("g"), group)].into())
 }
 
-/// The bytes of both nodes, and some of the zeros after them.
 #[test]
 fn bytes_of_the_store() {
-    let nodes = (0..1_100).chain(SLOT..SLOT + 1_100);
-    let places = nodes.chain((1_100..2 * SLOT).step_by(amount(97, 1)));
-    let (images, damaged) = swept(Sweep::of_store(store_to_damage(), 0), places);
+    let (images, damaged) = swept(Sweep::of_store, two_nodes(1_100));
     assert!(images > 100 && damaged > 1_000, "{images} {damaged}");
 }
 
@@ -305,6 +297,6 @@ fn bytes_of_the_state() {
     let index = (RECORD..REGIONS).step_by(amount(19, 1));
     let region = (REGIONS..used).step_by(amount(2, 1));
     let places = (0..RECORD).chain(region).chain(index);
-    let (images, damaged) = swept(Sweep::of_state(store_to_damage(), 0), places);
+    let (images, damaged) = swept(Sweep::of_state, places);
     assert!(images > 200 && damaged > 500, "{images} {damaged}");
 }

@@ -35,7 +35,7 @@ impl Told {
             | Command::Save { room } => *room,
             _ => 0,
         };
-        Told { code: u32::MAX, values: [MARK; 5], output: vec![0xA5; room + 2 * GUARD] }
+        Told { code: u32::MAX, values: [MARK; 6], output: vec![0xA5; room + 2 * GUARD] }
     }
 
     /// What a side tells.
@@ -59,6 +59,11 @@ impl Told {
             }
             Answer::Pending { id, time, count, lives } => {
                 vec![id.ms, id.seq, *time, u64::from(*count), u64::from(*lives)]
+            }
+            Answer::Report(report) => {
+                let ends = [report.smallest, report.largest].into_iter().flatten();
+                let signed = [report.sum].into_iter().chain(ends).map(|value| value as u64);
+                [report.lacking, report.other, report.integers].into_iter().chain(signed).collect()
             }
             _ => vec![],
         };

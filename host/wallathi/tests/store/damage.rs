@@ -16,6 +16,11 @@ use crate::{amount, Progress};
 
 const SLOT: usize = 4_096;
 
+/// The bytes of the nodes in two slots, which have so many at the most, and some of the zeros after them.
+pub fn two_nodes(size: usize) -> impl Iterator<Item = usize> {
+    (0..size).chain(SLOT..SLOT + size).chain((size..2 * SLOT).step_by(amount(97, 1)))
+}
+
 /// So many other values of a byte: the likely ones first.
 pub fn others(rng: &mut Rng, byte: u8, count: usize) -> Vec<u8> {
     let likely = [byte ^ 1 << rng.below(8), byte.wrapping_add(1), 0, 255, rng.byte()];
@@ -102,9 +107,14 @@ impl Sweep {
         Sweep { lent: image_of(&store), store, part, held, next, images: 0, damaged: 0 }
     }
 
-    /// The same with one command alone.
-    pub fn by(self, command: Command) -> Sweep {
-        Sweep { next: Box::new(move |_| command.clone()), ..self }
+    /// The same command for each of these bytes, which is changed; how often the bytes were an image then, and how often not.
+    pub fn each(self, command: Command, places: impl Iterator<Item = usize>) -> (usize, usize) {
+        let mut rng = Rng::new(9_001);
+        let mut sweep = Sweep { next: Box::new(move |_| command.clone()), ..self };
+        for at in places {
+            sweep.change(at, |good| others(&mut rng, good, amount(1, 4)));
+        }
+        (sweep.images, sweep.damaged)
     }
 
     /// A command for each of the values that the byte at a place gets in turn; it is as it was again then.

@@ -29,7 +29,7 @@ fn each_step(mut sweep: Sweep, places: impl Iterator<Item = usize>) -> (usize, u
 }
 
 /// A store of one slot that has this node.
-fn store_of(node: Node) -> Store {
+pub fn store_of(node: Node) -> Store {
     let mut model = Model::fresh(1);
     model.ledger.last_id = node.greatest_id();
     model.ledger.messages = node.live().map(|entry| (entry.id, entry.pairs.clone())).collect();

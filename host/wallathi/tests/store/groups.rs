@@ -7,12 +7,11 @@ use wallathi_model::id::Id;
 use wallathi_model::ledger::{Answer, Command, Store};
 use wallathi_model::message::Name;
 use wallathi_model::rng::Rng;
-use wallathi_model::slip;
 
 use crate::amount;
 use crate::beside::Beside;
 use crate::damage::image_of;
-use crate::limits::{name, one};
+use crate::limits::{full, name, one};
 
 const SLOT: usize = 4_096;
 
@@ -138,10 +137,7 @@ fn idle_times_from_both_sides() {
 
 /// A store of so many slots, full of small messages 7-1, 7-2, .. that were added, with these groups.
 pub fn store_with(slots: usize, groups: BTreeMap<Name, Group>) -> Store {
-    let mut store = Store::fresh(slots * SLOT);
-    let slip = slip::write(&one("1"));
-    let add = |seq| Command::Add { id: Id::new(7, seq), slip: slip.clone() };
-    (1..).find(|&seq| store.run(&add(seq)).code() != 0);
+    let mut store = full(slots, |_| one("1"));
     let model = store.model.as_mut().expect("an image");
     model.ledger.groups = groups;
     assert!(model.keeps_rules());

@@ -11,7 +11,7 @@ use crate::lent::Lent;
 
 const SLOT: usize = 4_096;
 
-fn message(list: &[(&[u8], &[u8])]) -> Message {
+pub fn message(list: &[(&[u8], &[u8])]) -> Message {
     list.iter().map(|(field, value)| (field.to_vec(), value.to_vec())).collect()
 }
 
@@ -21,6 +21,14 @@ pub fn one(value: &str) -> Message {
 
 pub fn name(text: &str) -> Name {
     text.as_bytes().to_vec()
+}
+
+/// A store of so many slots that takes no more of these messages, 7-1, 7-2, ..
+pub fn full(slots: usize, message: impl Fn(u64) -> Message) -> Store {
+    let mut store = Store::fresh(slots * SLOT);
+    let add = |seq| Command::Add { id: Id::new(7, seq), slip: slip::write(&message(seq)) };
+    (1..).find(|&seq| store.run(&add(seq)).code() != 0);
+    store
 }
 
 impl Beside {
@@ -254,11 +262,9 @@ fn the_last_ids_by_clock() {
     beside.check();
 }
 
-/// Differences that are negative, and that wrap.
-#[test]
-fn differences_of_every_kind() {
-    let mut beside = Beside::fresh(SLOT);
-    let ids = [
+/// IDs whose differences are negative, and wrap.
+pub fn far_apart() -> [Id; 9] {
+    [
         Id::new(1, 9),
         Id::new(2, 0),
         Id::new(2, u64::MAX),
@@ -268,7 +274,13 @@ fn differences_of_every_kind() {
         Id::new((1 << 63) + 2, (1 << 63) + 8),
         Id::new((1 << 63) + 2, (1 << 63) + 9),
         Id::GREATEST,
-    ];
+    ]
+}
+
+#[test]
+fn differences_of_every_kind() {
+    let mut beside = Beside::fresh(SLOT);
+    let ids = far_apart();
     ids.iter().for_each(|&id| assert_eq!(beside.add(id, &one("1")), Answer::Id(id)));
     for id in ids {
         assert_eq!(beside.run(&Command::Next { id }), Answer::Id(id));

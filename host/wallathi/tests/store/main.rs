@@ -12,6 +12,7 @@ mod lent;
 mod limits;
 mod lists;
 mod nodes;
+mod reports;
 mod sides;
 mod strings;
 

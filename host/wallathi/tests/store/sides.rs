@@ -3,17 +3,29 @@
 use wallathi::raw::{self, State};
 use wallathi_model::id::Id;
 use wallathi_model::ledger::Command;
+use wallathi_plain::node::report::Report as PlainReport;
 use wallathi_plain::{snapshot, store as plain};
 
-/// The numbers that a command may give, in the header's order.
-pub type Values = [u64; 5];
+/// The numbers that a command may give, in the header's order; those with a sign by their pattern.
+pub type Values = [u64; 6];
 
 /// Runs a command on store and state; numbers and output are lent too.
 pub type Call = fn(&mut [u8], &mut State, &Command, &mut Values, &mut [u8]) -> u32;
 
 /// The two numbers of an ID that a command gives.
 fn pair(values: &mut Values) -> &mut [u64; 2] {
-    values.first_chunk_mut().expect("two of five")
+    values.first_chunk_mut().expect("two of six")
+}
+
+/// The three counts of a report, and the three numbers that have a sign.
+fn report_of(values: &Values) -> ([u64; 3], [i64; 3]) {
+    let [lacking, other, integers, signed @ ..] = *values;
+    ([lacking, other, integers], signed.map(|value| value as i64))
+}
+
+fn put_report(values: &mut Values, counts: [u64; 3], signed: [i64; 3]) {
+    values[..3].copy_from_slice(&counts);
+    values[3..].copy_from_slice(&signed.map(|value| value as u64));
 }
 
 pub fn proved(
@@ -33,6 +45,14 @@ pub fn proved(
         Next { id } => raw::next(store, state, id.ms, id.seq, pair(values)),
         Read { id, .. } => raw::read(store, state, id.ms, id.seq, out, &mut values[0]),
         Field { id, name, .. } => raw::field(store, state, id.ms, id.seq, name, out, &mut values[0]),
+        Report { name, first, last } => {
+            let (mut counts, mut signed) = report_of(values);
+            let (first, last) = ((first.ms, first.seq), (last.ms, last.seq));
+            let code =
+                raw::report(store, state, name, first.0, first.1, last.0, last.1, &mut counts, &mut signed);
+            put_report(values, counts, signed);
+            code
+        }
         CreateGroup { group, start } => raw::create_group(store, state, group, start.ms, start.seq),
         DestroyGroup { group } => raw::destroy_group(store, state, group),
         GroupRead { group, consumer, now } => {
@@ -46,7 +66,8 @@ pub fn proved(
             raw::claim(store, state, group, consumer, *least_idle, id.ms, id.seq, *now)
         }
         NextPending { group, consumer, after } => {
-            raw::next_pending(store, state, group, consumer, after.ms, after.seq, values)
+            let five = values.first_chunk_mut().expect("five of six");
+            raw::next_pending(store, state, group, consumer, after.ms, after.seq, five)
         }
         DropConsumer { group, consumer } => raw::drop_consumer(store, state, group, consumer, &mut values[0]),
         Save { .. } => raw::save(store, state, out, &mut values[0]),
@@ -72,6 +93,14 @@ pub fn plain(
         Next { id } => plain::next(store, state, *id, &mut given),
         Read { id, .. } => return plain::read(store, state, *id, out, &mut values[0]),
         Field { id, name, .. } => return plain::field(store, state, *id, name, out, &mut values[0]),
+        Report { name, first, last } => {
+            let ([lacking, other, integers], [sum, smallest, largest]) = report_of(values);
+            let mut told = PlainReport { lacking, other, integers, sum, smallest, largest };
+            let code = plain::report(store, state, name, *first, *last, &mut told);
+            let signed = [told.sum, told.smallest, told.largest];
+            put_report(values, [told.lacking, told.other, told.integers], signed);
+            return code;
+        }
         CreateGroup { group, start } => return plain::create_group(store, state, group, *start),
         DestroyGroup { group } => return plain::destroy_group(store, state, group),
         GroupRead { group, consumer, now } => {
@@ -85,10 +114,11 @@ pub fn plain(
             return plain::claim(store, state, group, consumer, *least_idle, *id, *now)
         }
         NextPending { group, consumer, after } => {
-            let [_, _, time, count, lives] = *values;
+            let [_, _, time, count, lives, _] = *values;
             let mut found = plain::Pending { id: given, time, count, lives };
             let code = plain::next_pending(store, state, group, consumer, *after, &mut found);
-            *values = [found.id.ms, found.id.seq, found.time, found.count, found.lives];
+            let numbers = [found.id.ms, found.id.seq, found.time, found.count, found.lives];
+            values[..5].copy_from_slice(&numbers);
             return code;
         }
         DropConsumer { group, consumer } => {

@@ -10,7 +10,7 @@ use crate::beside::Beside;
 const SLOT: usize = 4_096;
 
 /// Integers at the ends of each form, texts that are nearly integers, texts at the ends of each form.
-fn boundaries() -> Vec<Vec<u8>> {
+pub fn boundaries() -> Vec<Vec<u8>> {
     let ends = [0, 127, 4_095, 32_767, 8_388_607, 2_147_483_647, i64::MAX];
     let numbers = ends.into_iter().flat_map(|end| {
         [Some(end), end.checked_add(1), Some(-1 - end), (-1 - end).checked_sub(1)].into_iter().flatten()

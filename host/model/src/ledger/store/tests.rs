@@ -1,6 +1,7 @@
 use super::*;
 use crate::groups::Pending;
 use crate::id::Id;
+use crate::ledger::Report;
 use crate::message::{Message, Name};
 use crate::slip;
 
@@ -187,6 +188,32 @@ fn field() {
     refused(&store, field(5, b"a", 0), 8);
     refused(&store, field(4, b"a", 0), 14);
     refused(&store, field(4, &[b'x'; 1001], 0), 3);
+}
+
+fn report(name: &[u8], first: Id, last: Id) -> Command {
+    Command::Report { name: name.to_vec(), first, last }
+}
+
+#[test]
+fn reports() {
+    let mut store = store();
+    let mut over = |name: &[u8], first, last| store.run(&report(name, first, last));
+    let integers = |lacking, integers, sum, smallest, largest| {
+        let (smallest, largest) = (Some(smallest), Some(largest));
+        Answer::Report(Report { lacking, other: 0, integers, sum, smallest, largest })
+    };
+    assert_eq!(over(b"a", Id::LEAST, Id::GREATEST), integers(0, 3, 6, 1, 3));
+    assert_eq!(over(b"a", Id::new(3, 0), Id::new(5, 0)), integers(0, 2, 3, 1, 2));
+    assert_eq!(over(b"a", Id::new(3, 1), Id::new(8, 0)), integers(0, 1, 2, 2, 2));
+    let none = |lacking, other| Answer::Report(Report { lacking, other, ..Report::default() });
+    assert_eq!(over(b"b", Id::LEAST, Id::GREATEST), none(2, 1));
+    assert_eq!(over(b"", Id::LEAST, Id::GREATEST), none(3, 0));
+    assert_eq!(over(b"a", Id::new(5, 1), Id::new(5, 0)), none(0, 0));
+    assert_eq!(over(&[b'x'; 1000], Id::LEAST, Id::GREATEST), none(3, 0));
+    refused(&store, report(&[b'x'; 1001], Id::GREATEST, Id::LEAST), 3);
+    refused(&Store::damaged(8192), report(&[b'x'; 1001], Id::LEAST, Id::GREATEST), 2);
+    store.run(&Command::Delete { id: Id::new(5, 0) });
+    assert_eq!(store.run(&report(b"a", Id::LEAST, Id::GREATEST)), integers(0, 2, 4, 1, 3));
 }
 
 #[test]
