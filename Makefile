@@ -1,19 +1,24 @@
-# The libraries with their headers, manual pages and pkg-config files. `make install PREFIX=/usr DESTDIR=..`
+# The libraries with their headers, manual pages and pkg-config files, and the programs. `make install PREFIX=/usr DESTDIR=..`
 PREFIX = /usr/local
 DESTDIR =
 VERSION := $(shell cat VERSION)
 INSTALL = install
 
 libraries = wallathi wallathi_index wallathi_text
+programs = report
 archives = $(libraries:%=target/staticlib/lib%.a)
 pages = $(libraries:%=target/man/%.3)
 packages = $(libraries:%=target/pkgconfig/%.pc)
+binaries = $(programs:%=target/bin/%)
 
-all: $(archives) $(pages) $(packages)
+all: $(archives) $(pages) $(packages) $(binaries)
 
 # The proofs run first.
 target/staticlib/lib%.a:
 	rt staticlib $*
+
+target/bin/%:
+	rt check $*
 
 # Plain C beside the proved libraries.
 target/staticlib/libwallathi_text.a: host/text/wallathi_text.c $(libraries:%=host/include/%.h)
@@ -36,11 +41,16 @@ description_wallathi_index = A proved index of up to 64 keys in lent bytes
 description_wallathi_text = The answers of both in words
 
 install: all
-	$(INSTALL) -d $(DESTDIR)$(PREFIX)/lib/pkgconfig $(DESTDIR)$(PREFIX)/include $(DESTDIR)$(PREFIX)/share/man/man3
+	$(INSTALL) -d $(DESTDIR)$(PREFIX)/lib/pkgconfig $(DESTDIR)$(PREFIX)/include $(DESTDIR)$(PREFIX)/share/man/man3 \
+	    $(DESTDIR)$(PREFIX)/bin $(DESTDIR)$(PREFIX)/share/man/man1
 	$(INSTALL) -m 644 $(archives) $(DESTDIR)$(PREFIX)/lib
 	$(INSTALL) -m 644 $(packages) $(DESTDIR)$(PREFIX)/lib/pkgconfig
 	$(INSTALL) -m 644 $(libraries:%=host/include/%.h) $(DESTDIR)$(PREFIX)/include
 	$(INSTALL) -m 644 $(pages) $(DESTDIR)$(PREFIX)/share/man/man3
+	for name in $(programs); do \
+	    $(INSTALL) -m 755 target/bin/$$name $(DESTDIR)$(PREFIX)/bin/wallathi-$$name && \
+	    $(INSTALL) -m 644 host/man/wallathi-$$name.1 $(DESTDIR)$(PREFIX)/share/man/man1 || exit 1; \
+	done
 
 .PHONY: all install
 .SECONDARY:
