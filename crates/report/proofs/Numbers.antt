@@ -1,15 +1,14 @@
 -- The texts of a finding are those of the engine's reply: every number fits. Assumes nothing.
-use mathlib.Core.Path.{_≡_, refl, ap, _∙_}
+use mathlib.Core.Path.{_≡_, refl, ap, ap₂, _∙_}
 use mathlib.Core.List.{List, _∷_}
 use mathlib.Core.Option.{Option, some, none}
 use Prim.Native.Nat.{ℕ, _+_, _-_, _^_, _≤_, _<_}
 use native.Mathlib.Omega.{arith}
 use lib.Dec.{leb}
 use lib.IntN.{ℤ, pos, negsuc, natAbs}
-use lib.ListN.{length}
+use lib.ListN.{length, take}
 use borrow.Author.Tests.{lt-ltb, le-ltb}
-use Rattle.octets.specs.Place.{put}
-use Rattle.octets.proofs.Laws.{pick-by}
+use Rattle.octets.proofs.Laws.{pick-by, length-put, take-put-end}
 use Rattle.decimal.specs.Text.{naturalText, textOf}
 use Rattle.stream.specs.declared.Reply.{Reply}
 use Rattle.stream.specs.Ledger.{Ledger}
@@ -79,11 +78,15 @@ texts-most (found r) = by (r .integers)
     by (some x) = omega arith
 
 -- the reply's texts, once they are written, are what is printed
-pub prints : {file name out after : List ℕ} {end : ℕ} {r : Reply} → r ≡ replyOf (answerOf (findingIn file name)) → Writes out 0 (replyTexts r) after end → Prints file name out after end
-prints {file} {name} {out} {after} {end} {r} q w =
+pub prints : {file name out after : List ℕ} {end : ℕ} {r : Reply} → 126 ≤ length out → r ≡ replyOf (answerOf (findingIn file name))
+    → Writes out 0 (replyTexts r) after end → Prints file name after end
+prints {file} {name} {out} {after} {end} {r} h q w =
     let e : replyTexts r ≡ textsOf (findingIn file name) = ap replyTexts q ∙ finding-texts file name in
+    let bs : List ℕ = linesOf (replyTexts r) in
+    let m : end ≤ 126 = omega (arith, w .few, ap {B = ℕ} length e, texts-most (findingIn file name)) in
+    let k : length bs ≤ length out = omega (arith, w .next-is) in
     record {
-      bytes = w .bytes ∙ ap (λ (ts : List (List ℕ)). put out 0 (linesOf ts)) e;
-      end-is = omega (arith, w .next-is, ap (λ (ts : List (List ℕ)). length (linesOf ts)) e);
-      most = omega (arith, w .few, ap {B = ℕ} length e, texts-most (findingIn file name));
+      text =
+          ap₂ (λ (n : ℕ) (l : List ℕ). take n l) (w .next-is) (w .bytes) ∙ take-put-end out 0 bs (omega arith) ∙ ap linesOf e;
+      within = omega (arith, ap length (w .bytes), length-put out 0 bs (omega arith));
     }

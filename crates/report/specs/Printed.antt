@@ -6,9 +6,8 @@ use mathlib.Core.Option.{Option, some, none}
 use Prim.Native.Nat.{ℕ, _+_, _≤_}
 use lib.Dec.{leb}
 use lib.IntN.{ℤ, pos, negsuc}
-use lib.ListN.{length}
+use lib.ListN.{length, take}
 use Rattle.octets.specs.Pick.{pick}
-use Rattle.octets.specs.Place.{put}
 use Rattle.decimal.specs.Text.{naturalText}
 use Rattle.node.specs.Message.{longestString}
 use Rattle.stream.specs.Ledger.{Ledger}
@@ -56,8 +55,7 @@ linesOf (t ∷ ts) = t ++ (10 ∷ linesOf ts)
 abbrev pub printed : List ℕ → List ℕ → List ℕ
 printed file name = linesOf (textsOf (findingIn file name))
 
--- what is printed of a file and a name stands at the start of `out`, which is then `after`, up to `end`
-pub record Prints (file name out after : List ℕ) (end : ℕ) : Type 0 where
-  pub bytes : after ≡ put out 0 (printed file name)
-  pub end-is : end ≡ length (printed file name)
-  pub most : end ≤ 126
+-- up to `end` the bytes are what is printed of a file and a name
+pub record Prints (file name bytes : List ℕ) (end : ℕ) : Type 0 where
+  pub text : take end bytes ≡ printed file name
+  pub within : end ≤ length bytes

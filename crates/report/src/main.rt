@@ -33,7 +33,7 @@ fn answer(
     out: &mut [u8],
 ) -> usize
     requires { ⌜ 126 ≤ length (now out) ⌝ }
-    ensures { λ r. ⌜ Prints (now (file .entry)) (now (name .entry)) (now (out .entry)) (now (out .exit)) r ⌝ }
+    ensures { λ r. ⌜ Prints (now (file .entry)) (now (name .entry)) (now (out .exit)) r ⌝ }
 {
     let r = finding::find(store, state, file, name);
     text::write(out, r)

@@ -103,8 +103,8 @@ impl Program {
         if output.status.success() && output.stderr.is_empty() && output.stdout == lines.as_bytes() {
             return Ok(());
         }
-        let arguments: Vec<_> =
-            command.get_args().map(|word| &word.as_bytes()[..word.len().min(40)]).collect();
+        let shown = |word: &OsStr| word.to_string_lossy().chars().take(40).collect::<String>();
+        let arguments: Vec<String> = command.get_args().map(shown).collect();
         Err(format!("{arguments:?}: {lines:?} is expected, {output:?}"))
     }
 

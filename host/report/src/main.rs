@@ -64,7 +64,7 @@ fn snapshots(seed: u64, mood: Mood, commands: u32) -> Vec<Vec<u8>> {
     files
 }
 
-/// Snapshots of many stores, and each of them damaged.
+/// Snapshots of many stores, and the same with a byte changed.
 fn stores(program: &Program) -> Outcome {
     let moods = [
         (Mood::Mixed, 400),
@@ -75,14 +75,15 @@ fn stores(program: &Program) -> Outcome {
     ];
     let mut rng = Rng::new(7);
     for (mood, commands) in moods {
-        for mut file in (0..6).flat_map(|seed| snapshots(seed, mood, commands)) {
+        for file in (0..4).flat_map(|seed| snapshots(seed, mood, commands)) {
             let ledger = snapshot::read(&file).expect("a snapshot");
             for name in names(&mut rng, &ledger) {
                 program.agrees(&file, &name)?;
+                let mut damaged = file.clone();
+                let place = rng.size_below(file.len());
+                damaged[place] = rng.byte();
+                program.agrees(&damaged, &name)?;
             }
-            let place = rng.size_below(file.len());
-            file[place] = rng.byte();
-            program.agrees(&file, b"temp")?;
         }
     }
     Ok(())

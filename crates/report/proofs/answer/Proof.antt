@@ -9,4 +9,4 @@ answer-spec = tie.close (tie.spec
     (λ c κs. search needs)
     (λ c κs. search needs)
     (λ c. search needs)
-    (λ c. prints (c .before .before .before .before .find .ensures) (c .before .before .write .ensures)))
+    (λ c. prints (c .before .before .before .before .before .before .before .before .before .before .pre) (c .before .before .before .before .find .ensures) (c .before .before .write .ensures)))
