@@ -14,6 +14,8 @@ use Rattle.decimal.specs.Integer.{patternOf}
 use Rattle.decimal.specs.Text.{textOf, naturalText, digitsOf}
 -- what the answer of `recognise` says of the string
 pub use Rattle.decimal.proofs.Cases.{recognised-integer, recognised-other}
+-- the text of a number without a sign, and with one
+pub use Rattle.decimal.proofs.Writing.{text-plus, text-minus}
 
 below : (s : List ℕ) (p : ℕ) → Is s p → p < 2 ^ 64
 below s p (nought e q) = omega arith

@@ -7,9 +7,9 @@ use native.Mathlib.Omega.{arith}
 use lib.Dec.{leb}
 use lib.IntN.{ℤ, pos, negsuc, natAbs}
 use lib.ListN.{length, take}
-use borrow.Author.Tests.{lt-ltb, le-ltb}
 use Rattle.octets.proofs.Laws.{pick-by, length-put, take-put-end}
 use Rattle.decimal.specs.Text.{naturalText, textOf}
+use Rattle.decimal.proofs.Laws.{text-plus, text-minus}
 use Rattle.stream.specs.declared.Reply.{Reply}
 use Rattle.stream.specs.Ledger.{Ledger}
 use Rattle.stream.specs.Report.{patternBy, Integers, Report, noMessages, reportOn, howMany}
@@ -23,26 +23,20 @@ use Rattle.report.specs.Printed.{Finding, refusal, found, findingBy, fin
 use Rattle.report.specs.Written.{answerOf, replyTexts, Writes}
 
 -- the text of a number and of its pattern
-natural-text : (n : ℕ) → n < 2 ^ 63 → textOf n ≡ naturalText n
-unfolding textOf
-natural-text n h = rw (lt-ltb n (2 ^ 63) h)
-
 integer-text : (z : ℤ) → natAbs z < 2 ^ 63 → textOf (patternBy z) ≡ integerText z
 unfolding patternBy integerText
-integer-text (pos n) h = natural-text n h
-integer-text (negsuc n) h = unfold textOf in
-    let e : 2 ^ 64 - (2 ^ 64 - 1 - n) ≡ n + 1 = omega arith in
-    rw (le-ltb (2 ^ 64 - 1 - n) (2 ^ 63) (omega arith), e)
+integer-text (pos n) h = text-plus n h
+integer-text (negsuc n) h = text-minus (2 ^ 64 - 1 - n) (n + 1) (omega arith) (omega arith)
 
 -- a report's, where every number fits
 report-texts : (l o : ℕ) (x : Option Integers) → l + (o + howMany x) ≤ 6400 → Bounds x
     → replyTexts (replyOf (reportBy l o x)) ≡ naturalText l ∷ (naturalText o ∷ integersTexts x)
-report-texts l o none h b = rw (natural-text l (omega arith), natural-text o (omega arith), natural-text 0 (omega arith))
+report-texts l o none h b = rw (text-plus l (omega arith), text-plus o (omega arith), text-plus 0 (omega arith))
 report-texts l o (some x) h b =
     rw (
-      natural-text l (omega arith),
-      natural-text o (omega arith),
-      natural-text (x .count) (omega arith),
+      text-plus l (omega arith),
+      text-plus o (omega arith),
+      text-plus (x .count) (omega arith),
       integer-text (x .sum) (omega (arith, b .sum-bound)),
       integer-text (x .smallest) (omega (arith, b .smallest-bound)),
       integer-text (x .largest) (omega (arith, b .largest-bound)),
@@ -55,7 +49,7 @@ few-messages file l e =
     omega (arith, most-messages 64 (loaded l) (fresh-model 64 l (s .is-ledger) (s .few-nodes)) (omega arith), ap length (fresh-messages (l .messages)))
 
 finding-by : (file name : List ℕ) (o : Option Ledger) → parseSnapshot file ≡ o → replyTexts (replyOf (answerOf (findingBy name o))) ≡ textsOf (findingBy name o)
-finding-by file name none e = rw (natural-text 16 (omega arith))
+finding-by file name none e = rw (text-plus 16 (omega arith))
 finding-by file name (some l) e =
     let r : Report = reportOn name noMessages (l .messages) in
     report-texts (r .lacking) (r .other) (r .integers) (omega (arith, counted-once name noMessages (l .messages), few-messages file l e))
@@ -66,7 +60,7 @@ unfolding findingIn
 finding-texts file name =
     pick-by (λ (x : Finding). replyTexts (replyOf (answerOf x)) ≡ textsOf x) (leb (length name) 1000) (findingBy name (parseSnapshot file)) (refusal 3)
     (λ h. finding-by file name (parseSnapshot file) refl)
-    (λ h. rw (natural-text 3 (omega arith)))
+    (λ h. rw (text-plus 3 (omega arith)))
 
 -- at most six lines
 texts-most : (x : Finding) → length (textsOf x) ≤ 6
