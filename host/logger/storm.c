@@ -1,5 +1,5 @@
 /* A simulated storm, end to end: three stations log for three hours, an analyst reads along, the file goes to a second institute, and the
- * eastern channel is reported in exact numbers and drawn with its gaps. `storm FOLDER` leaves everything in FOLDER. */
+ * eastern channel is drawn with its gaps and reported in exact numbers. `storm FOLDER` leaves everything in FOLDER. */
 #include <inttypes.h>
 #include <math.h>
 #include <stdio.h>
@@ -280,7 +280,7 @@ int main(int argc, char **argv)
     log_storm();
     compare(argv[1]);
     damage();
-    report();
     draw(argv[1]);
+    report();
     return 0;
 }
