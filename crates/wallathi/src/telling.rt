@@ -27,6 +27,15 @@ pub fn code_of(r: Reply) -> u32
     }
 }
 
+fn first_at(n: u64, k: usize, old: u64) -> u64
+    ensures { λ r. ⌜ r ≡ getD (n ∷ []) k old ⌝ }
+{
+    if k == 0 {
+        return n;
+    }
+    old
+}
+
 fn pair_at(a: u64, b: u64, k: usize, old: u64) -> u64
     ensures { λ n. ⌜ n ≡ getD (a ∷ (b ∷ [])) k old ⌝ }
 {
@@ -104,18 +113,8 @@ fn number_at(r: Reply, k: usize, old: u64) -> u64
         Reply::Refused(_) => old,
         Reply::Done => old,
         Reply::Given(id) => pair_at(id.ms, id.seq, k, old),
-        Reply::Counted(n) => {
-            if k == 0 {
-                return n;
-            }
-            old
-        }
-        Reply::Written(n) => {
-            if k == 0 {
-                return n as u64;
-            }
-            old
-        }
+        Reply::Counted(n) => first_at(n, k, old),
+        Reply::Written(n) => first_at(n as u64, k, old),
         Reply::Entry {
             id,
             time,
