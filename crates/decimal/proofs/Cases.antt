@@ -1,16 +1,13 @@
 -- The three kinds of integer: 0, a positive number, a minus and a positive number. Assumes nothing.
-use mathlib.Core.Path.{_≡_, refl, sym, subst}
-use mathlib.Core.Bool.{Bool, true, false}
+use mathlib.Core.Path.{_≡_, refl, _∙_}
 use mathlib.Core.List.{List, [], _∷_}
 use mathlib.Core.Option.{Option, some, none}
 use Prim.Native.Nat.{ℕ, _-_, _^_, _≤_, _<_}
 use native.Mathlib.Omega.{arith}
-use lib.Dec.{leb, eqb}
-use borrow.Author.Tests.{le-leb, leb-true, ne-eqb, eqb-true}
-use Rattle.octets.specs.Pick.{pick}
-use Rattle.octets.specs.Maybe.{_>>=_, _>>_, need}
+use lib.Dec.{leb}
+use borrow.Author.Tests.{le-leb, leb-true, ne-eqb}
 use Rattle.octets.specs.Compare.{same}
-use Rattle.octets.proofs.Laws.{same-true}
+use Rattle.octets.proofs.Laws.{pick-by, pick-eq, needed, answered, same-true}
 use Rattle.decimal.proofs.Natural.{digit, none-some}
 use Rattle.decimal.specs.Integer.{patternOf, signedOf, negativeOf, unsignedOf, positiveOf, upTo, recognisedBy}
 use Rattle.decimal.specs.declared.Recognised.the-variants.{Integer, Other}
@@ -20,13 +17,9 @@ pub data Is (s : List ℕ) (p : ℕ) : Type 0 where
   plus : positiveOf s ≡ some p → p < 2 ^ 63 → Is s p
   minus : (r : List ℕ) (n : ℕ) → s ≡ 45 ∷ r → p ≡ 2 ^ 64 - n → positiveOf r ≡ some n → n ≤ 2 ^ 63 → Is s p
 
-pub up-to : (most : ℕ) (o : Option ℕ) (n : ℕ) → upTo most o ≡ some n → (o ≡ some n) × (n ≤ most)
-up-to most none n e = absurd (none-some e)
-up-to most (some m) n e = by (leb m most) refl e
-  where
-    by : (t : Bool) → leb m most ≡ t → (need t >> some m) ≡ some n → (some m ≡ some n) × (n ≤ most)
-    by true q e = let k : m ≡ n = cc in (e, omega (arith, leb-true m most q))
-    by false q e = absurd (none-some e)
+up-to : (most : ℕ) (o : Option ℕ) (n : ℕ) → upTo most o ≡ some n → (o ≡ some n) × (n ≤ most)
+up-to most o n e =
+    answered o _ e (λ m q f. needed (leb m most) (some m) f (λ t k. let i : m ≡ n = cc in (q ∙ k, omega (arith, leb-true m most t))))
 
 -- the program's answer, turned back
 pub recognised-integer : (o : Option ℕ) (p : ℕ) → recognisedBy o ≡ Integer p → o ≡ some p
@@ -39,32 +32,21 @@ recognised-other (some n) e = absurd (let z : _≡_ {A = ℕ} 0 1 = cc in omega 
 
 negative : (r : List ℕ) (p : ℕ) → negativeOf r ≡ some p → Is (45 ∷ r) p
 unfolding negativeOf
-negative r p e = by (upTo (2 ^ 63) (positiveOf r)) refl e
-  where
-    by : (o : Option ℕ) → upTo (2 ^ 63) (positiveOf r) ≡ o → (o >>= λ n. some (2 ^ 64 - n)) ≡ some p → Is (45 ∷ r) p
-    by none q e = absurd (none-some e)
-    by (some n) q e =
-        let u = up-to (2 ^ 63) (positiveOf r) n q in
-        minus r n refl (cc) (u .0) (u .1)
+negative r p e =
+    answered (upTo (2 ^ 63) (positiveOf r)) _ e (λ n q f. let u = up-to (2 ^ 63) (positiveOf r) n q in minus r n refl (cc) (u .0) (u .1))
 
 signed : (s : List ℕ) (p : ℕ) → signedOf s ≡ some p → Is s p
 unfolding signedOf unsignedOf
 signed [] p e = absurd (none-some e)
-signed (b ∷ r) p e = by (eqb b 45) refl e
-  where
-    by : (t : Bool) → eqb b 45 ≡ t → pick t (negativeOf r) (unsignedOf (b ∷ r)) ≡ some p → Is (b ∷ r) p
-    by true q e = subst (λ (x : ℕ). Is (x ∷ r) p) (sym (eqb-true b 45 q)) (negative r p e)
-    by false q e =
-        let u = up-to (2 ^ 63 - 1) (positiveOf (b ∷ r)) p e in
-        plus (u .0) (omega arith)
+signed (b ∷ r) p e =
+    pick-eq (λ (o : Option ℕ). o ≡ some p → Is (b ∷ r) p) b 45 _ _ (λ q f. rw q (negative r p f))
+    (λ q f. let u = up-to (2 ^ 63 - 1) (positiveOf (b ∷ r)) p f in plus (u .0) (omega arith))
+    e
 
 pub is : (s : List ℕ) (p : ℕ) → patternOf s ≡ some p → Is s p
 unfolding patternOf
-is s p e = by (same s (48 ∷ [])) refl e
-  where
-    by : (t : Bool) → same s (48 ∷ []) ≡ t → pick t (some 0) (signedOf s) ≡ some p → Is s p
-    by true q e = nought (same-true s (48 ∷ []) q) (cc)
-    by false q e = signed s p e
+is s p e =
+    pick-by (λ (o : Option ℕ). o ≡ some p → Is s p) (same s (48 ∷ [])) _ _ (λ q f. nought (same-true s (48 ∷ []) q) (cc)) (λ q f. signed s p f) e
 
 pub pattern : (s : List ℕ) (p : ℕ) → Is s p → patternOf s ≡ some p
 unfolding patternOf signedOf unsignedOf negativeOf positiveOf same

@@ -4,7 +4,9 @@ use mathlib.Core.List.{List, [], _∷_, map}
 use mathlib.Core.Option.{Option, some, none}
 use Prim.Native.Nat.{ℕ, _-_, _^_}
 use Rattle.octets.specs.Compare.{same}
-use Rattle.decimal.specs.Integer.{patternOf, signedOf, negativeOf, unsignedOf, positiveOf, digitsAfter}
+use Rattle.decimal.specs.Integer.{patternOf, signedOf, negativeOf, unsignedOf, positiveOf, digitsAfter, recognisedBy}
+use Rattle.decimal.specs.Steps.{grown, after, signed, soFar}
+use Rattle.decimal.specs.declared.recognition.Prefix.the-variants.{Empty}
 use Rattle.decimal.specs.Text.{textOf, naturalText, digitsOf}
 
 pub record Row : Type 0 where
@@ -41,6 +43,10 @@ table =
 read : map (λ (r : Row). patternOf (r .string)) table ≡ map (λ (r : Row). r .pattern) table
 unfolding table patternOf signedOf negativeOf unsignedOf positiveOf digitsAfter same
 read = refl
+
+stepwise : map (λ (r : Row). soFar (after Empty (r .string))) table ≡ map (λ (r : Row). recognisedBy (r .pattern)) table
+unfolding table after grown signed
+stepwise = refl
 
 -- the text of the pattern, where there is one
 abbrev textBack : List ℕ → Option ℕ → List ℕ

@@ -1,5 +1,5 @@
 -- What the crate promises of patterns and texts: each is the other's inverse, and how long a text is. Assumes nothing.
-use mathlib.Core.Path.{_≡_, refl, sym, ap, _∙_}
+use mathlib.Core.Path.{_≡_, refl, ap}
 use mathlib.Core.List.{List, _∷_}
 use mathlib.Core.Option.{Option, some, none}
 use Prim.Native.Nat.{ℕ, zero, suc, _-_, _/_, _^_, _≤_, _<_}
@@ -7,11 +7,13 @@ use native.Mathlib.Omega.{arith}
 use lib.ListN.{length}
 use borrow.Author.Tests.{lt-ltb, le-ltb}
 use Rattle.octets.specs.Bytes.{Bytes}
-use Rattle.octets.proofs.Laws.{bytes-nil, bytes-cons, bytes-append}
-use Rattle.decimal.proofs.Natural.{pick-lt, positive-text, text-positive, length-natural, length-shorter}
+use Rattle.octets.proofs.Laws.{pick-lt, bytes-nil, bytes-cons, bytes-append}
+use Rattle.decimal.proofs.Natural.{positive-text, text-positive, length-natural, length-shorter}
 use Rattle.decimal.proofs.Cases.{Is, nought, plus, minus, is, pattern}
 use Rattle.decimal.specs.Integer.{patternOf}
 use Rattle.decimal.specs.Text.{textOf, naturalText, digitsOf}
+-- the state: a step at a place of a string, none past its end, and what it answers after the steps of a string
+pub use Rattle.decimal.proofs.Steps.{turn, no-more, recognised}
 -- what the answer of `recognise` says of the string
 pub use Rattle.decimal.proofs.Cases.{recognised-integer, recognised-other}
 -- the text of a number without a sign, and with one
@@ -45,7 +47,7 @@ natural-is (suc p) h = plus (text-positive (suc p) (omega arith) (omega arith)) 
 text-is : (p : ℕ) → p < 2 ^ 64 → Is (textOf p) p
 unfolding textOf
 text-is p h =
-    pick-lt (λ (t : List ℕ). Is t p) _ _ p (2 ^ 63) (natural-is p)
+    pick-lt (λ (t : List ℕ). Is t p) p (2 ^ 63) _ _ (natural-is p)
     (λ k. minus (naturalText (2 ^ 64 - p)) (2 ^ 64 - p) refl (omega arith) (text-positive (2 ^ 64 - p) (omega arith) (omega arith)) (omega arith))
 
 pub pattern-of-text : (p : ℕ) → p < 2 ^ 64 → patternOf (textOf p) ≡ some p
@@ -54,19 +56,19 @@ pattern-of-text p h = pattern (textOf p) p (text-is p h)
 pub text-length : (p : ℕ) → (1 ≤ length (textOf p)) × (length (textOf p) ≤ 20)
 unfolding textOf
 text-length p =
-    pick-lt (λ (l : List ℕ). (1 ≤ length l) × (length l ≤ 20)) _ _ p (2 ^ 63) (λ k. length-natural p)
+    pick-lt (λ (l : List ℕ). (1 ≤ length l) × (length l ≤ 20)) p (2 ^ 63) _ _ (λ k. length-natural p)
     (λ k. (omega arith, omega (arith, length-shorter (2 ^ 64 - p) (omega arith))))
 
 digits-bytes : (m n : ℕ) → Bytes (digitsOf m n)
 unfolding digitsOf
 digits-bytes zero n = bytes-nil
 digits-bytes (suc m) n =
-    pick-lt Bytes _ _ n 10 (λ h. bytes-cons (omega arith) bytes-nil) (λ h. bytes-append (digits-bytes m (n / 10)) (bytes-cons (omega arith) bytes-nil))
+    pick-lt Bytes n 10 _ _ (λ h. bytes-cons (omega arith) bytes-nil) (λ h. bytes-append (digits-bytes m (n / 10)) (bytes-cons (omega arith) bytes-nil))
 
 pub text-bytes : (p : ℕ) → Bytes (textOf p)
 unfolding textOf naturalText
 text-bytes p =
-    pick-lt Bytes _ _ p (2 ^ 63) (λ h. digits-bytes 20 p) (λ h. bytes-cons (omega arith) (digits-bytes 20 (2 ^ 64 - p)))
+    pick-lt Bytes p (2 ^ 63) _ _ (λ h. digits-bytes 20 p) (λ h. bytes-cons (omega arith) (digits-bytes 20 (2 ^ 64 - p)))
 
 pub pattern-long : (s : List ℕ) → 20 < length s → patternOf s ≡ none
 pattern-long s h = by (patternOf s) refl

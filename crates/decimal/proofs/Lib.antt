@@ -2,6 +2,6 @@
 pub mod Laws
 pub mod Cases
 pub mod Natural
-pub mod Reading
+pub mod Steps
 pub mod Writing
 pub mod Examples

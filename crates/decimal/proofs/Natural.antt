@@ -1,6 +1,5 @@
 -- Natural numbers in decimal digits: one digit more, and that digits read and digits written are inverse. Assumes nothing.
-use mathlib.Core.Path.{_≡_, refl, ap, ap₂, _∙_}
-use mathlib.Core.Bool.{Bool, true, false}
+use mathlib.Core.Path.{_≡_, ap, ap₂, _∙_}
 use mathlib.Core.List.{List, [], _∷_, _++_, append-assoc, append-nil}
 use mathlib.Core.Option.{Option, some, none}
 use Prim.Native.Nat.{ℕ, zero, suc, _+_, _-_, _*_, _/_, _%_, _^_, _≤_, _<_}
@@ -8,9 +7,10 @@ use native.Mathlib.Nat.{pow-succ'}
 use native.Mathlib.Omega.{arith}
 use lib.Dec.{leb, ltb}
 use lib.ListN.{length, length-append}
-use borrow.Author.Tests.{lt-ltb, le-ltb, le-leb, leb-true, ltb-true, ltb-false}
+use borrow.Author.Tests.{lt-ltb, le-ltb, le-leb, leb-true}
 use Rattle.octets.specs.Pick.{pick, both}
 use Rattle.octets.specs.Maybe.{_>>_, need}
+use Rattle.octets.proofs.Laws.{pick-lt, needed, both-true}
 use Rattle.decimal.specs.Integer.{digitsAfter, positiveOf}
 use Rattle.decimal.specs.Text.{digitsOf, naturalText}
 
@@ -36,26 +36,17 @@ module _ (n : ℕ) where
   pub length-more : 10 ≤ n → n < 2 ^ 64 → length (naturalText n) ≡ length (naturalText (n / 10)) + 1
   length-more h k = ap length (natural-more h k) ∙ length-append (naturalText (n / 10)) ((48 + n % 10) ∷ [])
 
--- what holds of both holds of the one that is picked
-module _ {A : Type 0} (P : A → Type 0) (x y : A) where
-  pub pick-lt : (a b : ℕ) → (a < b → P x) → (b ≤ a → P y) → P (pick (ltb a b) x y)
-  pick-lt a b p q = by (ltb a b) refl
-    where
-      by : (t : Bool) → ltb a b ≡ t → P (pick t x y)
-      by true e = p (ltb-true a b e)
-      by false e = q (ltb-false a b e)
-
 length-digits : (m n : ℕ) → length (digitsOf m n) ≤ m
 unfolding digitsOf
 length-digits zero n = omega arith
 length-digits (suc m) n =
-    pick-lt (λ (l : List ℕ). length l ≤ suc m) _ _ n 10 (λ h. omega arith)
+    pick-lt (λ (l : List ℕ). length l ≤ suc m) n 10 _ _ (λ h. omega arith)
     (λ h. omega (arith, length-append (digitsOf m (n / 10)) ((48 + n % 10) ∷ []), length-digits m (n / 10)))
 
 pub length-natural : (n : ℕ) → (1 ≤ length (naturalText n)) × (length (naturalText n) ≤ 20)
 unfolding naturalText digitsOf
 length-natural n = (
-  pick-lt (λ (l : List ℕ). 1 ≤ length l) _ _ n 10 (λ h. omega arith)
+  pick-lt (λ (l : List ℕ). 1 ≤ length l) n 10 _ _ (λ h. omega arith)
       (λ h. omega (arith, length-append (digitsOf 19 (n / 10)) ((48 + n % 10) ∷ []))),
   length-digits 20 n,
 )
@@ -70,16 +61,13 @@ none-some {x} e = let z : _≡_ {A = ℕ} 0 1 = cc in omega arith
 
 -- a digit that was found, from lo on
 pub digit : (lo b : ℕ) (o : Option ℕ) (m : ℕ) → (need (both (leb lo b) (leb b 57)) >> o) ≡ some m → (lo ≤ b) × (b ≤ 57) × (o ≡ some m)
-digit lo b o m e = by (leb lo b) (leb b 57) refl refl e
-  where
-    by : (t u : Bool) → leb lo b ≡ t → leb b 57 ≡ u → (need (both t u) >> o) ≡ some m → (lo ≤ b) × (b ≤ 57) × (o ≡ some m)
-    by true true p q e = (leb-true lo b p, leb-true b 57 q, e)
-    by true false p q e = absurd (none-some e)
-    by false u p q e = absurd (none-some e)
+digit lo b o m e =
+    needed (both (leb lo b) (leb b 57)) o e
+    (λ t k. let u = both-true (leb lo b) (leb b 57) t in (leb-true lo b (u .0), leb-true b 57 (u .1), k))
 
 module _ (m : ℕ) where
   -- more digits make no smaller number
-  after-grows : (n : ℕ) (s : List ℕ) → digitsAfter n s ≡ some m → n ≤ m
+  pub after-grows : (n : ℕ) (s : List ℕ) → digitsAfter n s ≡ some m → n ≤ m
   unfolding digitsAfter
   after-grows n [] e = let q : n ≡ m = cc in omega arith
   after-grows n (b ∷ bs) e = omega (arith, after-grows (10 * n + (b - 48)) bs (digit 48 b _ m e .2))
@@ -133,7 +121,7 @@ digits-positive : (k n : ℕ) → 1 ≤ n → n < 10 ^ k → positiveOf (digitsO
 unfolding digitsOf
 digits-positive zero n h l = absurd (omega arith)
 digits-positive (suc k) n h l =
-    pick-lt (λ (t : List ℕ). positiveOf t ≡ some n) _ _ n 10 (λ j. single n h j) λ j.
+    pick-lt (λ (t : List ℕ). positiveOf t ≡ some n) n 10 _ _ (λ j. single n h j) λ j.
     let q : 10 * (n / 10) + n % 10 ≡ n = omega arith in
     positive-last (n / 10) (n % 10) (digitsOf k (n / 10)) (omega arith) (digits-positive k (n / 10) (omega arith) (omega (arith, pow-succ' 10 k))) ∙ ap some q
 

@@ -1,3 +1,4 @@
 -- Read in this order.
 pub mod Integer
+pub mod Steps
 pub mod Text

@@ -3,6 +3,7 @@
 mod recognition;
 mod text;
 
+pub use recognition::Recogniser;
 pub use recognition::recognise;
 pub use text::text_size;
 pub use text::write_text;

@@ -1,85 +1,147 @@
-// Which strings are integers.
+// Which strings are integers: a state takes the bytes one by one and answers for those so far.
 
 use crate::HALF;
 use crate::Recognised;
 use crate::negated;
 ghost use mathlib.Core.Path.{_≡_};
-ghost use Prim.Native.Nat.{_+_, _^_, _≤_, _<_};
-ghost use lib.ListN.{length, drop};
-ghost use Rattle.decimal.specs.Integer.{patternOf, negativeOf, positiveOf, recognisedBy, upTo, digitsAfter};
+ghost use Prim.Native.Nat.{_≤_};
+ghost use lib.ListN.{length};
+ghost use Rattle.decimal.specs.Integer.{patternOf, recognisedBy};
+ghost use Rattle.decimal.specs.Steps.{isDigitFrom, grown, stepped, soFar, after};
+ghost use Rattle.decimal.specs.declared.recognition.Prefix.the-variants.{Empty};
 
-// Most strings are no integers by their first byte, so it is looked at before anything else.
-pub fn recognise(s: &[u8]) -> Recognised
-    ensures { λ r. ⌜ r ≡ recognisedBy (patternOf (now (s .entry))) ⌝ }
+// What the bytes so far are.
+pub enum Prefix {
+    Empty,
+    Minus,
+    // Whether a minus stands before it, whether it is 0, after which no digit may follow, and the number.
+    Number(bool, bool, u64),
+    // No integer, whatever follows.
+    Failed,
+}
+
+pub struct Recogniser(pub Prefix);
+
+// 10^18: from here on a number has no room for one more digit.
+const FULL: u64 = 1000000000000000000;
+
+fn is_digit(b: u8, low: u8) -> bool
+    ensures { λ r. ⌜ r ≡ isDigitFrom low b ⌝ }
+{
+    if b < low {
+        return false;
+    }
+    b <= b'9'
+}
+
+// A digit more, from `low` on.
+fn grown(negative: bool, zero: bool, n: u64, low: u8, b: u8) -> Prefix
+    requires { ⌜ 48 ≤ low ⌝ }
+    ensures { λ r. ⌜ r ≡ grown negative zero n low b ⌝ }
+{
+    if zero {
+        return Prefix::Failed;
+    }
+    if FULL <= n {
+        return Prefix::Failed;
+    }
+    if is_digit(b, low) {
+        return Prefix::Number(negative, zero, 10 * n + octets::wide(b - b'0'));
+    }
+    Prefix::Failed
+}
+
+impl Recogniser {
+    pub fn new() -> Recogniser
+        ensures { λ r. ⌜ r .0 ≡ Empty ⌝ }
+    {
+        Recogniser(Prefix::Empty)
+    }
+
+    // One byte more.
+    pub fn step(self, byte: u8) -> Recogniser
+        ensures { λ r. ⌜ r .0 ≡ stepped (self .0) byte ⌝ }
+    {
+        let prefix = self.0;
+        match prefix {
+            Prefix::Number(negative, zero, n) => Recogniser(grown(negative, zero, n, b'0', byte)),
+            Prefix::Empty => {
+                // Most strings are no integers by their first byte, which then is mostly above the digits.
+                if b'9' < byte {
+                    return Recogniser(Prefix::Failed);
+                }
+                if byte == b'0' {
+                    return Recogniser(Prefix::Number(false, true, 0));
+                }
+                if byte == b'-' {
+                    return Recogniser(Prefix::Minus);
+                }
+                Recogniser(grown(false, false, 0, b'1', byte))
+            }
+            Prefix::Minus => Recogniser(grown(true, false, 0, b'1', byte)),
+            Prefix::Failed => Recogniser(Prefix::Failed),
+        }
+    }
+
+    // For the bytes so far.
+    pub fn answer(self) -> Recognised
+        ensures { λ r. ⌜ r ≡ soFar (self .0) ⌝ }
+    {
+        let prefix = self.0;
+        match prefix {
+            Prefix::Number(negative, _, n) => {
+                if negative {
+                    if n == 0 {
+                        return Recognised::Other;
+                    }
+                    if HALF < n {
+                        return Recognised::Other;
+                    }
+                    return Recognised::Integer(negated(n));
+                }
+                if HALF <= n {
+                    return Recognised::Other;
+                }
+                Recognised::Integer(n)
+            }
+            Prefix::Empty => Recognised::Other,
+            Prefix::Minus => Recognised::Other,
+            Prefix::Failed => Recognised::Other,
+        }
+    }
+}
+
+// One walk, a step a byte, until the state has failed. The first step stands before the loop, where the compiler knows the state.
+fn walk(s: &[u8]) -> Recognised
+    requires { ⌜ length (now s) ≤ 20 ⌝ }
+    ensures { λ r. ⌜ r ≡ soFar (after Empty (now (s .entry))) ⌝ }
 {
     if s.len() == 0 {
         return Recognised::Other;
     }
-    let first = s[0];
-    if b'9' < first {
+    let mut state = Recogniser::new().step(s[0]);
+    let mut prefix = state.0;
+    if let Prefix::Failed = prefix {
         return Recognised::Other;
     }
-    if first == b'-' {
-        return negative(s);
-    }
-    if first == b'0' {
-        if s.len() == 1 {
-            return Recognised::Integer(0);
-        }
-        return Recognised::Other;
-    }
-    positive(s, 0, HALF - 1)
-}
-
-// What follows a minus.
-fn negative(s: &[u8]) -> Recognised
-    requires { ⌜ 1 ≤ length (now s) ⌝ }
-    ensures { λ r. ⌜ r ≡ recognisedBy (negativeOf (drop 1 (now (s .entry)))) ⌝ }
-{
-    let found = positive(s, 1, HALF);
-    match found {
-        Recognised::Integer(n) => Recognised::Integer(negated(n)),
-        Recognised::Other => Recognised::Other,
-    }
-}
-
-// A digit 1-9 followed by digits, from a place to the end, whose number is at most `most`. With more than 19 digits it is larger.
-fn positive(s: &[u8], from: usize, most: u64) -> Recognised
-    requires { ⌜ (from ≤ length (now s)) × (most < 10 ^ 19) ⌝ }
-    ensures { λ r. ⌜ r ≡ recognisedBy (upTo most (positiveOf (drop from (now (s .entry))))) ⌝ }
-{
-    if s.len() == from {
-        return Recognised::Other;
-    }
-    if s[from] < b'1' {
-        return Recognised::Other;
-    }
-    if 19 < s.len() - from {
-        return Recognised::Other;
-    }
-    digits(s, from, most)
-}
-
-// Digits from a place to the end. The number of 19 digits fits.
-fn digits(s: &[u8], from: usize, most: u64) -> Recognised
-    requires { ⌜ (from ≤ length (now s)) × (length (now s) ≤ from + 19) ⌝ }
-    ensures { λ r. ⌜ r ≡ recognisedBy (upTo most (digitsAfter 0 (drop from (now (s .entry))))) ⌝ }
-{
-    let mut n: u64 = 0;
-    let mut i = from;
+    let mut i = 1;
     while i < s.len() {
-        let b = s[i];
-        if b < b'0' {
+        state = state.step(s[i]);
+        prefix = state.0;
+        if let Prefix::Failed = prefix {
             return Recognised::Other;
         }
-        if b'9' < b {
-            return Recognised::Other;
-        }
-        n = 10 * n + octets::wide(b - b'0');
         i += 1;
     }
-    if most < n {
+    state.answer()
+}
+
+// No integer has more than 20 bytes, so a longer string takes no step.
+pub fn recognise(s: &[u8]) -> Recognised
+    ensures { λ r. ⌜ r ≡ recognisedBy (patternOf (now (s .entry))) ⌝ }
+{
+    if 20 < s.len() {
         return Recognised::Other;
     }
-    Recognised::Integer(n)
+    walk(s)
 }
