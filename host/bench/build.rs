@@ -1,4 +1,4 @@
-//! Links libbench.a, libbench_node.a and libbench_groups.a from the folder WALLATHI_LIB, by default the one that `rt staticlib` writes to.
+//! Links the archives of the crates bench and bench_* from the folder WALLATHI_LIB, by default the one that `rt staticlib` writes to.
 
 use std::env;
 use std::path::PathBuf;
@@ -10,7 +10,7 @@ fn main() {
         None => here.join("../../target/staticlib"),
     };
     println!("cargo:rerun-if-env-changed=WALLATHI_LIB");
-    for library in ["bench", "bench_node", "bench_groups"] {
+    for library in ["bench", "bench_decimal", "bench_node", "bench_groups"] {
         println!("cargo:rerun-if-changed={}", folder.join(format!("lib{library}.a")).display());
         println!("cargo:rustc-link-lib=static={library}");
     }

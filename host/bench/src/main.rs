@@ -1,4 +1,4 @@
-//! Measures the proved functions on listpacks and nodes beside the plain ones, in one run.
+//! Measures the proved functions on strings, listpacks, nodes and groups beside the plain ones, in one run.
 //!
 //! `bench` prints times, `bench instructions` counts of executed instructions (it runs itself under
 //! valgrind). See docs/PERFORMANCE.md.
@@ -12,6 +12,7 @@ use wallathi_model::rng::Rng;
 
 mod groups;
 mod nodes;
+mod recognition;
 
 const ROOM: usize = 4_096;
 /// Each sample lasts about this long, so that the clock's own cost does not show.
@@ -80,7 +81,8 @@ fn mixed() -> Vec<u8> {
 }
 
 fn tasks() -> Vec<Task> {
-    let mut tasks = listpack_tasks();
+    let mut tasks = recognition::tasks();
+    tasks.extend(listpack_tasks());
     tasks.extend(nodes::tasks());
     tasks.extend(groups::tasks());
     tasks

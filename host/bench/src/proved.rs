@@ -1,8 +1,10 @@
-//! The proved functions of the crate `bench`, as safe Rust.
+//! The proved functions of the crates `bench_decimal`, `bench` and `bench_node`, as safe Rust.
 
 use wallathi_model::id::Id;
 
 extern "C" {
+    fn wallathi_bench_recognise(string: *const u8, length: usize, pattern: *mut u64) -> u32;
+    fn wallathi_bench_steps(string: *const u8, length: usize, pattern: *mut u64) -> u32;
     fn wallathi_bench_check(bytes: *const u8, length: usize) -> u32;
     fn wallathi_bench_write_integers(out: *mut u8, length: usize, first: u64, step: u64) -> u64;
     fn wallathi_bench_write_texts(out: *mut u8, length: usize, text: *const u8, text_length: usize) -> u64;
@@ -55,6 +57,22 @@ extern "C" {
         out: *mut u8,
         out_length: usize,
     ) -> u64;
+}
+
+/// The pattern of the integer that a string is.
+pub fn recognise(string: &[u8]) -> Option<u64> {
+    let mut pattern = 0;
+    // SAFETY: pointer and length are those of a slice, which the function only reads; the out-parameter is ours.
+    let code = unsafe { wallathi_bench_recognise(string.as_ptr(), string.len(), &mut pattern) };
+    (code == 1).then_some(pattern)
+}
+
+/// The same by one step of the recogniser for each byte, however many there are.
+pub fn steps(string: &[u8]) -> Option<u64> {
+    let mut pattern = 0;
+    // SAFETY: as above.
+    let code = unsafe { wallathi_bench_steps(string.as_ptr(), string.len(), &mut pattern) };
+    (code == 1).then_some(pattern)
 }
 
 pub fn check(bytes: &[u8]) -> bool {

@@ -1,11 +1,12 @@
 //! The compiler makes one piece of the strict walk over a node, and another of the loop over strings, which two walks call. A second
-//! caller of one of the walk's functions would end that, at half as much again in time: so the archive must not list them.
+//! caller of one of the walk's functions would end that, at half as much again in time: so the archive must not list them. Integer
+//! recognition has several callers, and is just small enough to become part of each.
 
 use std::env;
 use std::path::PathBuf;
 use std::process::Command;
 
-const WALK: [&str; 8] = [
+const WALK: [&str; 10] = [
     "node::strict::entry_at",
     "node::strict::head_at",
     "node::strict::body_at",
@@ -14,6 +15,8 @@ const WALK: [&str; 8] = [
     "listpack::strict::read_number",
     "listpack::strict::string_size",
     "listpack::strict::short_text_size",
+    "decimal::recognition::recognise",
+    "decimal::recognition::walk",
 ];
 
 fn archive() -> PathBuf {

@@ -1,0 +1,2 @@
+-- What the functions of the benchmark answer.
+pub mod Told
