@@ -8,12 +8,14 @@ use lib.ListN.{length}
 use borrow.Author.Tests.{lt-ltb, le-ltb}
 use Rattle.octets.specs.Bytes.{Bytes}
 use Rattle.octets.proofs.Laws.{pick-lt, bytes-nil, bytes-cons, bytes-append}
-use Rattle.decimal.proofs.Natural.{positive-text, text-positive, length-natural, length-shorter}
+use Rattle.decimal.proofs.Natural.{length-shorter}
 use Rattle.decimal.proofs.Cases.{Is, nought, plus, minus, is, pattern}
 use Rattle.decimal.specs.Integer.{patternOf}
 use Rattle.decimal.specs.Text.{textOf, naturalText, digitsOf}
 -- the state: a step at a place of a string, none past its end, and what it answers after the steps of a string
 pub use Rattle.decimal.proofs.Steps.{turn, no-more, recognised}
+-- numbers without a sign: each of text and number gives the other, and how long a text is
+pub use Rattle.decimal.proofs.Natural.{digit, natural-one, natural-more, after-grows, positive-text, text-positive, length-natural}
 -- what the answer of `recognise` says of the string
 pub use Rattle.decimal.proofs.Cases.{recognised-integer, recognised-other}
 -- the text of a number without a sign, and with one

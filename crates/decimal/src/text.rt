@@ -17,7 +17,8 @@ pub fn text_size(p: u64) -> usize
     1 + natural_size(negated(p))
 }
 
-fn natural_size(n: u64) -> usize
+// Of a number without a sign.
+pub fn natural_size(n: u64) -> usize
     ensures { λ r. ⌜ r ≡ length (naturalText n) ⌝ }
 {
     let mut size = 1;
@@ -42,8 +43,8 @@ pub fn write_text(d: &mut [u8], at: usize, p: u64)
     write_natural(d, at + 1, n);
 }
 
-// From the last digit to the first.
-fn write_natural(d: &mut [u8], at: usize, n: u64)
+// A number without a sign, from the last digit to the first.
+pub fn write_natural(d: &mut [u8], at: usize, n: u64)
     requires { ⌜ at + length (naturalText n) ≤ length (now d) ⌝ }
     ensures { λ _. ⌜ now (d .exit) ≡ put (now (d .entry)) at (naturalText n) ⌝ }
 {
