@@ -1,0 +1,4 @@
+-- Read in this order.
+pub mod Reply
+pub mod Parse
+pub mod Answer
