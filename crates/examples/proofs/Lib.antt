@@ -1,3 +1,4 @@
 pub mod Marked
 pub mod More
 pub mod Reports
+pub mod Ranges

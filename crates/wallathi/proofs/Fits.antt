@@ -15,6 +15,7 @@ use Rattle.id.specs.declared.Following.the-variants.{Next, Exhausted}
 use Rattle.slip.specs.Slip.{slip, parseSlip}
 use Rattle.node.specs.Message.{Pair, Message, message}
 use Rattle.node.specs.Step.{fitsAlone, findMessage, firstFrom, firstAfter, valueOf}
+use Rattle.resp.specs.Reply.{rangeBytes}
 use Rattle.groups.specs.Group.{Pending, Group, mostPending}
 use Rattle.groups.specs.Area.{mostGroups}
 use Rattle.groups.specs.Step as Groups
@@ -49,6 +50,7 @@ roomIn (Stream.next i) = 0
 roomIn (Stream.read i room) = room
 roomIn (Stream.field i name room) = room
 roomIn (Stream.report name first last) = 0
+roomIn (Stream.rangeReply first last room) = room
 
 abbrev pub roomInGroup : Stream.GroupCommand → ℕ
 roomInGroup (Stream.groupRead consumer time) = 0
@@ -113,6 +115,7 @@ query-fits (Stream.report name first last) l =
     by : (l o : ℕ) (x : Option Integers) → Fits 0 (reportBy l o x)
     by l o none = tt
     by l o (some x) = tt
+query-fits (Stream.rangeReply first last room) l = writes-fit room (rangeBytes (between first last (l .messages)))
 
 abbrev FitsGroup : ℕ → GroupStep → Type 0
 FitsGroup room s = Fits room (s .answer)
