@@ -5,5 +5,6 @@ pub mod Parts
 pub mod Openings
 pub mod Entries
 pub mod Replies
+pub mod Joined
 pub mod Writing
 pub mod Examples

@@ -1,0 +1,67 @@
+// A string as a bulk string.
+
+ghost use mathlib.Core.Path.{_≡_};
+ghost use mathlib.Core.List.{List};
+ghost use Prim.Native.Nat.{ℕ, _+_, _≤_, _<_};
+ghost use lib.ListN.{length};
+ghost use Rattle.octets.specs.Place.{area, put};
+ghost use Rattle.decimal.specs.Text.{textOf};
+ghost use Rattle.listpack.specs.Known.{ElementAt, stringAt, afterAt};
+ghost use Rattle.resp.specs.Reply.{bulk};
+use listpack::Element;
+use node_read::Passed;
+use resp::BULK;
+
+// How many bytes a string of n bytes takes.
+pub fn bulk_size(n: usize) -> usize
+    requires { ⌜ n < 4096 ⌝ }
+    ensures { λ r. ⌜ ((x : List ℕ) → n ≡ length x → r ≡ length (bulk x)) × (r ≤ n + 25) ⌝ }
+{
+    resp::head_size(n as u64) + n + 2
+}
+
+// A text, from its place on; the answer is the place after it.
+fn put_text(s: &[u8], from: usize, len: usize, out: &mut [u8], to: usize) -> usize
+    requires { ⌜ (from + len ≤ length (now s)) × (to + length (bulk (area from len (now s))) ≤ length (now out)) ⌝ }
+    ensures { λ r. ⌜ (r ≡ to + length (bulk (area from len (now (s .entry))))) × (now (out .exit) ≡ put (now (out .entry)) to (bulk (area from len (now (s .entry))))) ⌝ }
+{
+    let at = resp::write_head(out, to, BULK, len as u64);
+    let end = from + len;
+    octets::copy_in(out, at, &s[from..end]);
+    resp::write_end(out, at + len)
+}
+
+// The text of an integer; the answer is the place after it.
+fn put_number(p: u64, out: &mut [u8], to: usize) -> usize
+    requires { ⌜ to + length (bulk (textOf p)) ≤ length (now out) ⌝ }
+    ensures { λ r. ⌜ (r ≡ to + length (bulk (textOf p))) × (now (out .exit) ≡ put (now (out .entry)) to (bulk (textOf p))) ⌝ }
+{
+    let n = decimal::text_size(p);
+    let at = resp::write_head(out, to, BULK, n as u64);
+    decimal::write_text(out, at, p);
+    resp::write_end(out, at + n)
+}
+
+// The string of the element at a place.
+pub fn put_bulk(s: &[u8], at: usize, out: &mut [u8], to: usize) -> Passed
+    requires { ⌜ (ElementAt (now s) at) × (to + length (bulk (stringAt (now s) at)) ≤ length (now out)) ⌝ }
+    ensures { λ r. ⌜ (r .next ≡ afterAt (now (s .entry)) at) × (r .to ≡ to + length (bulk (stringAt (now (s .entry)) at))) × (now (out .exit) ≡ put (now (out .entry)) to (bulk (stringAt (now (s .entry)) at))) ⌝ }
+{
+    match listpack::known_element(s, at) {
+        Element::Integer { pattern, size } => {
+            let end = put_number(pattern, out, to);
+            Passed {
+                next: at + size,
+                to: end,
+            }
+        }
+        Element::Text { start, len, size } => {
+            let end = put_text(s, at + start, len, out, to);
+            Passed {
+                next: at + size,
+                to: end,
+            }
+        }
+        Element::Bad => Passed { next: at, to },
+    }
+}
