@@ -10,6 +10,7 @@ use Rattle.wallathi.proofs.Refused as refusals
 use Rattle.wallathi.proofs.Absent as lacking
 use Rattle.wallathi.proofs.Batches as batches
 use Rattle.wallathi.proofs.Reports as reports
+use Rattle.wallathi.proofs.Resp as replies
 
 pub demands : Demands
 demands =
@@ -27,6 +28,8 @@ demands =
       batch-in-list = batches.batch-in-list;
       report-exact = reports.report-exact;
       report-parts = reports.report-parts;
+      range-exact = replies.range-exact;
+      reply-exact = replies.reply-exact;
       refused-keeps = refusals.refused-keeps;
       damaged = λ cs i k ss m e h. damages.damaged m e h;
       fresh-run = possible.fresh-run;

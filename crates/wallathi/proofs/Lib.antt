@@ -19,4 +19,5 @@ pub mod OneImage
 pub mod Joins
 pub mod Batches
 pub mod Reports
+pub mod Resp
 pub mod Demands

@@ -40,7 +40,7 @@ report-seen i j s name first last olds l d e h =
     query-seen (report name first last) olds [] i j s l (d .does) e ∙ ap (tellTo olds []) z ∙ reply-seen olds (r .lacking) (r .other) (r .integers)
 
 -- a query keeps every byte
-query-keeps : (q : Query) (values output : List ℕ) (i j : Lent) (s : Seen) (m : Model) → heldBy i ≡ some m
+pub query-keeps : (q : Query) (values output : List ℕ) (i j : Lent) (s : Seen) (m : Model) → heldBy i ≡ some m
     → Does (tellTo values output) (onStream (asks q)) i s j → j ≡ i
 query-keeps q values output i j s m h d =
     let x : Shows (tellTo values output) (step (slotsOf i) (asks q) m) m i s j =
@@ -49,7 +49,7 @@ query-keeps q values output i j s m h d =
 
 -- the model that a store holds whose ledger is l
 module _ (i : Lent) (l : Ledger) {P : Type 0} where
-  held : ledgerBy i ≡ some l → ((m : Model) → heldBy i ≡ some m → ledgerOf m ≡ l → P) → P
+  pub held : ledgerBy i ≡ some l → ((m : Model) → heldBy i ≡ some m → ledgerOf m ≡ l → P) → P
   held e k = by (heldBy i) refl e
     where
       by : (o : Option Model) → heldBy i ≡ o → Option·map ledgerOf o ≡ some l → P

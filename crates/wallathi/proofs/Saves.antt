@@ -27,6 +27,10 @@ pub put-first : (out bs : List ℕ) → put out 0 bs ≡ bs ++ drop (length bs) 
 unfolding put
 put-first out bs = let e : 0 + length bs ≡ length bs = omega arith in ap (λ (n : ℕ). bs ++ drop n out) e
 
+-- what was written starts the output
+pub file-is : (len : ℕ) (out f : List ℕ) → fileIn (tellTo (len ∷ []) out (written f)) ≡ f
+file-is len out f = ap (take (length f)) (put-first out f) ∙ take-at f (drop (length f) out) (length f) refl
+
 save-seen : (len : ℕ) (out : List ℕ) (l : Ledger) → tellTo (len ∷ []) out (saveReply (length out) l) ≡ saveSeen len out l
 unfolding saveReply
 save-seen len out l = by (leb (length (freshCut (l .messages))) 64) (leb (length (snapshotOf l)) (length out))
@@ -63,7 +67,7 @@ module _ (i j : Lent) (s : Seen) (len : ℕ) (out : List ℕ) (d : Meets (call s
           → s ≡ tellTo (len ∷ []) out (pick a (pick b (written (snapshotOf (ledgerOf m))) (refused 8)) (refused 15)) → Accepted
       tests m h true true p q t =
           let f : List ℕ = snapshotOf (ledgerOf m) in
-          let z : fileIn s ≡ f = ap fileIn t ∙ ap (take (length f)) (put-first out f) ∙ take-at f (drop (length f) out) (length f) refl in
+          let z : fileIn s ≡ f = ap fileIn t ∙ file-is len out f in
           record { model = m; held = h; writes = rw (p, q) (ap written (sym z)) }
       tests m h true false p q t = absurd (let z : 8 ≡ 0 = code-is t in omega arith)
       tests m h false b p q t = absurd (let z : 15 ≡ 0 = code-is t in omega arith)

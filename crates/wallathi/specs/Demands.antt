@@ -15,14 +15,17 @@ use Rattle.id.specs.declared.Following.the-variants.{Next}
 use Rattle.id.specs.Id.{Fits64, below, atMost, followingOf}
 use Rattle.node.specs.Message.{Message}
 use Rattle.node.specs.Step.{findMessage, valueOf}
+use Rattle.resp.specs.Reply.{Reply, range, rangeBytes, replyBytes, isReply}
+use Rattle.resp.specs.Parse.{parseReply}
+use Rattle.resp_read.specs.Answer.{messageAt}
 use Rattle.groups.specs.Group.{Pending, Group, isAmong, mostPending}
 use Rattle.groups.specs.Step.{findGroup}
 use Rattle.stream.specs.Ledger.{Ledger, emptyLedger, isLedger}
 use Rattle.stream.specs.Cut.{Node, Model, modelOf, ledgerOf, isModel, freshCut}
 use Rattle.stream.specs.Command as Stream
-use Rattle.stream.specs.Command.{GroupCommand, groupRead, groupReadMany, acknowledge, claim, nextPending, dropConsumer, setUp, add, addByClock, delete, trim, createGroup, destroyGroup, asks, inGroup, field, report, Answer}
+use Rattle.stream.specs.Command.{GroupCommand, groupRead, groupReadMany, acknowledge, claim, nextPending, dropConsumer, setUp, add, addByClock, delete, trim, createGroup, destroyGroup, asks, inGroup, field, report, rangeReply, Answer}
 use Rattle.stream.specs.Report.{between, patternBy, Integers, Report, noMessages, reportOn, countsOf, Exact, joined}
-use Rattle.stream.specs.LedgerStep.{idsAfter, idsBytes}
+use Rattle.stream.specs.LedgerStep.{idsAfter, idsBytes, writes}
 use Rattle.stream.specs.Laid.{Laid}
 use Rattle.stream.specs.Run.{Turn, run, answers}
 use Rattle.stream.specs.Promise.{Lent, heldBy, slotsOf, tailOf}
@@ -31,6 +34,7 @@ use Rattle.snapshot.specs.Command.{Command, onStream, save, load, loaded, heals
 use Rattle.snapshot.specs.Ledger.{ledgerTurn, besideTurn}
 use Rattle.wallathi.specs.Export.{Seen, seen, over, tellTo}
 use Rattle.wallathi.specs.Run.{Call, call, plain, commandOf, AreBytes, Meets, Made}
+use Rattle.wallathi.specs.Replies.{readSeen, messageSeen, placeSeen}
 
 -- the plain ledger with the cut beside it
 pub record Kept : Type 0 where
@@ -98,7 +102,7 @@ saveSeen len out l =
     (pick (leb (length f) (length out)) (seen 0 (length f ∷ []) (f ++ drop (length f) out)) (seen 8 (len ∷ []) out))
     (seen 15 (len ∷ []) out)
 
--- the file that an accepted save wrote: so many bytes of the output
+-- what an accepted call wrote, a save its file: so many bytes of the output
 abbrev pub fileIn : Seen → List ℕ
 fileIn s = take (getD (s .values) 0 0) (s .output)
 
@@ -216,6 +220,21 @@ pub record Joins (name : List ℕ) (a b c d : Id) (l : Ledger) (xs ys zs : List 
   pub second-sees : t ≡ reportSeen ys (reportIn name d c l)
   pub whole-sees : u ≡ reportSeen zs (joined (reportIn name a b l) (reportIn name d c l))
 
+-- 02, CR 4: the call for the range reply, its out-parameter holding len; on a store i that holds the ledger l it is refused with 8 exactly
+-- where the output is shorter, and what it wrote reads back as the live messages in the range: by wallathi_read_reply their number, by
+-- wallathi_reply_message each of them, and 32 past the end
+abbrev pub rangeCall : Id → Id → ℕ → List ℕ → Call
+rangeCall first last len out = call (λ room. onStream (asks (rangeReply first last room))) (len ∷ []) out
+
+pub record RangeReplies (first last : Id) (len : ℕ) (out : List ℕ) (l : Ledger) (i : Lent) (s : Seen) (j : Lent) : Type 0 where
+  pub sees : s ≡ tellTo (len ∷ []) out (writes (length out) (rangeBytes (between first last (l .messages))))
+  pub kept : j ≡ i
+  pub parsed : s .code ≡ 0 → parseReply (fileIn s) ≡ some (range (between first last (l .messages)))
+  pub counts : s .code ≡ 0 → (olds : List ℕ)
+      → readSeen olds (parseReply (fileIn s)) ≡ seen 0 (over (1 ∷ (length (between first last (l .messages)) ∷ [])) olds) []
+  pub gives : s .code ≡ 0 → (place : ℕ) (olds to : List ℕ)
+      → placeSeen place olds to (parseReply (fileIn s)) ≡ messageSeen olds to (messageAt place (between first last (l .messages)))
+
 -- arguments as C can pass them: IDs and times of 64 bits, bytes (of names and files this is known by what the commands test)
 abbrev pub PassesGroup : GroupCommand → Type 0
 PassesGroup (groupRead consumer time) = time < 2 ^ 64
@@ -317,6 +336,15 @@ pub record Demands : Type 0 where
   pub report-parts : (i j k n : Lent) (s t u : Seen) (name : List ℕ) (a b c d : Id) (xs ys zs : List ℕ) (l : Ledger)
       → Meets (reportCall name a b xs) i s j → Meets (reportCall name d c ys) i t k → Meets (reportCall name a c zs) i u n → ledgerBy i ≡ some l
       → length name ≤ 1000 → followingOf b ≡ Next d → atMost a b ≡ true → atMost b c ≡ true → Joins name a b c d l xs ys zs s t u
+  -- "Write the range reply (ends included)"; "what is written reads back" (02, CR 4): on any store that holds a ledger, reached or handed in,
+  -- of which every byte is kept
+  pub range-exact : (i j : Lent) (s : Seen) (first last : Id) (len : ℕ) (out : List ℕ) (l : Ledger) → Meets (rangeCall first last len out) i s j
+      → ledgerBy i ≡ some l → RangeReplies first last len out l i s j
+  -- "It accepts exactly what is written for some list, however long, of messages that 01 allows live in rising ID order, some such integer
+  -- or refusal number" (02, CR 4): of any bytes
+  pub reply-exact : (s : List ℕ) (x : Reply) → Bytes s
+      → (parseReply s ≡ some x → (s ≡ replyBytes x) × (isReply x ≡ true))
+      × (length s < 2 ^ 64 → s ≡ replyBytes x → isReply x ≡ true → parseReply s ≡ some x)
   -- "Whatever document 01 refuses .. gets that document's number, and the store and the output keep all their bytes": whatever a call
   -- answers but 0, so none, nothing new, absent and not moved (32, 33, 34) too; of 35 `report-exact` says which numbers are written
   pub refused-keeps : (c : Call) (i j : Lent) (s : Seen) → Meets c i s j → 1 ≤ s .code → Refuses c i s j

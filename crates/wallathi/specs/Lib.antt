@@ -2,6 +2,7 @@
 -- what is claimed of them.
 pub mod Export
 pub mod Run
+pub mod Replies
 pub mod Demands
 -- What the functions inside promise.
 pub mod Telling

@@ -5,5 +5,6 @@ mod consumers;
 mod known;
 mod messages;
 mod reading;
+mod replies;
 mod snapshots;
 mod telling;

@@ -1,0 +1,18 @@
+-- `wallathi_integer_reply` meets its contract. Assumes nothing.
+use borrow.Author.Needs.{needs}
+use Rattle.resp.specs.Reply.{isCount, integerBytes}
+use Rattle.wallathi.proofs.Resp.{number-seen}
+use Rattle.wallathi.proofs.replies.wallathi_integer_reply.Statement.{statement}
+use Rattle.wallathi.proofs.replies.wallathi_integer_reply.Tie as tie
+
+pub wallathi-integer-reply-spec : {M : Type 1} → statement M
+wallathi-integer-reply-spec =
+    tie.close
+    (tie.spec
+    (λ c κs. search needs)
+    (λ c κs. search needs)
+    (λ c. search needs)
+    (λ c.
+    let x = c .before .before .before .before .before .before .before .args in
+    let d = c .before .before .before .before .integer-reply .ensures in
+    number-seen (isCount (x .n)) (integerBytes (x .n)) (x .out .now) (x .len .now) _ _ _ _ (d .0) (d .1) (c .tell-replied .ensures .0) (c .tell-replied .ensures .1)))
