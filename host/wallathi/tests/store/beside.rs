@@ -31,6 +31,7 @@ impl Told {
         let room = match command {
             Command::Read { room, .. }
             | Command::Field { room, .. }
+            | Command::RangeReply { room, .. }
             | Command::GroupReadMany { room, .. }
             | Command::Save { room } => *room,
             _ => 0,
