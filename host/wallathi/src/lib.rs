@@ -31,7 +31,10 @@ mod store;
 pub use id::{Id, NotAnId, ID_BYTES};
 pub use raw::STATE_BYTES;
 pub use refusal::Refusal;
-pub use reply::{error_reply, integer_reply, read_reply, reply_message_into, Reply};
+pub use reply::{
+    error_reply, integer_reply, read_reply, reply_message_into, Reply, LARGEST_INTEGER_REPLY,
+    LAST_ERROR_REPLY, LONGEST_NUMBER_REPLY,
+};
 pub use slip::{Pairs, SlipRef, LONGEST_STRING, MOST_PAIRS};
 pub use store::{
     Borrowed, Integers, Pending, PendingEntries, Report, Store, LARGEST_BATCH, LONGEST_SLIP,

@@ -14,6 +14,12 @@ pub const ABSENT: u32 = 33;
 pub const NOT_MOVED: u32 = 34;
 /// The report is over no integer: counts and sum are written, smallest and largest are not.
 pub const NO_INTEGERS: u32 = 35;
+/// The kind of a range reply.
+pub const RANGE_REPLY: u64 = 1;
+/// The kind of an integer reply.
+pub const INTEGER_REPLY: u64 = 2;
+/// The kind of an error reply.
+pub const ERROR_REPLY: u64 = 3;
 /// The size of a state.
 pub const STATE_BYTES: usize = 64_434;
 
@@ -478,7 +484,7 @@ pub fn error_reply(number: u64, output: &mut [u8], written: &mut u64) -> u32 {
     unsafe { c::wallathi_error_reply(number, output.as_mut_ptr(), output.len(), written) }
 }
 
-/// Gives the kind of a reply (1 range, 2 integer, 3 error), and how many messages it has or its number.
+/// Gives the kind of a reply ([`RANGE_REPLY`], [`INTEGER_REPLY`], [`ERROR_REPLY`]), and how many messages it has or its number.
 #[must_use]
 pub fn read_reply(reply: &[u8], values: &mut [u64; 2]) -> u32 {
     let [kind, number] = values;

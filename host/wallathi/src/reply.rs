@@ -9,22 +9,31 @@ use crate::{Id, Refusal};
 #[cfg(feature = "alloc")]
 use crate::{Slip, LONGEST_SLIP};
 
+/// The number of an integer reply is 0 to this one.
+pub const LARGEST_INTEGER_REPLY: u64 = 6_400;
+
+/// The number of an error reply is 1 to this one.
+pub const LAST_ERROR_REPLY: u64 = 18;
+
+/// An output of this length suffices for every integer reply and every error reply.
+pub const LONGEST_NUMBER_REPLY: usize = 9;
+
 /// What a reply is ([`read_reply`]).
 #[derive(Clone, Copy, Debug, PartialEq, Eq, Hash)]
 pub enum Reply {
     /// A list of so many messages ([`reply_message`]).
     Range(u64),
-    /// A count, 0 to 6,400.
+    /// A count, 0 to [`LARGEST_INTEGER_REPLY`].
     Integer(u64),
-    /// A refusal's number, 1 to 18 ([`Refusal::from_number`]; 18 is one of the index).
+    /// A refusal's number, 1 to [`LAST_ERROR_REPLY`] ([`Refusal::from_number`]; 18 is one of the index).
     Error(u64),
 }
 
-/// The integer reply, as to delete, trim and acknowledge, at the start of `out`; the answer is its length, at most 7.
+/// The integer reply, as to delete, trim and acknowledge, at the start of `out`; the answer is its length.
 ///
 /// ```
-/// use wallathi::{integer_reply, read_reply, Reply};
-/// let mut out = [0; 7];
+/// use wallathi::{integer_reply, read_reply, Reply, LONGEST_NUMBER_REPLY};
+/// let mut out = [0; LONGEST_NUMBER_REPLY];
 /// let length = integer_reply(12, &mut out)?;
 /// assert_eq!(&out[..length], b":12\r\n");
 /// assert_eq!(read_reply(&out[..length])?, Reply::Integer(12));
@@ -33,18 +42,18 @@ pub enum Reply {
 ///
 /// # Errors
 ///
-/// [`Refusal::BadArgument`] above 6,400; [`Refusal::ShortOutput`] where `out` is shorter.
+/// [`Refusal::BadArgument`] above [`LARGEST_INTEGER_REPLY`]; [`Refusal::ShortOutput`] where `out` is shorter.
 pub fn integer_reply(number: u64, out: &mut [u8]) -> Result<usize, Refusal> {
     let mut length = 0;
     answered(raw::integer_reply(number, out, &mut length))?;
     Ok(length_of(length))
 }
 
-/// The error reply of a refusal's number, at the start of `out`; the answer is its length, at most 9.
+/// The error reply of a refusal's number, at the start of `out`; the answer is its length.
 ///
 /// ```
-/// use wallathi::{error_reply, Refusal};
-/// let mut out = [0; 9];
+/// use wallathi::{error_reply, Refusal, LONGEST_NUMBER_REPLY};
+/// let mut out = [0; LONGEST_NUMBER_REPLY];
 /// let length = error_reply(Refusal::NotLive.number().into(), &mut out)?;
 /// assert_eq!(&out[..length], b"-ERR 14\r\n");
 /// # Ok::<(), wallathi::Refusal>(())
@@ -52,7 +61,7 @@ pub fn integer_reply(number: u64, out: &mut [u8]) -> Result<usize, Refusal> {
 ///
 /// # Errors
 ///
-/// [`Refusal::BadArgument`] where the number is not 1 to 18; [`Refusal::ShortOutput`] where `out` is shorter.
+/// [`Refusal::BadArgument`] where the number is not 1 to [`LAST_ERROR_REPLY`]; [`Refusal::ShortOutput`] where `out` is shorter.
 pub fn error_reply(number: u64, out: &mut [u8]) -> Result<usize, Refusal> {
     let mut length = 0;
     answered(raw::error_reply(number, out, &mut length))?;
@@ -69,8 +78,8 @@ pub fn read_reply(reply: &[u8]) -> Result<Reply, Refusal> {
     let mut values = [0; 2];
     answered(raw::read_reply(reply, &mut values))?;
     Ok(match values {
-        [1, messages] => Reply::Range(messages),
-        [2, number] => Reply::Integer(number),
+        [raw::RANGE_REPLY, messages] => Reply::Range(messages),
+        [raw::INTEGER_REPLY, number] => Reply::Integer(number),
         [_, number] => Reply::Error(number),
     })
 }
