@@ -14,8 +14,8 @@
  * reader of them. Beside each function stands what it writes; CR LF is the bytes 13 and 10, and every number is decimal, without sign and
  * leading zero.
  *
- * Every command on a store but set up and load first judges the whole store and state. Bytes that are not the image of any messages and groups that
- * keep the rules are refused as damaged, never followed. Bytes changed into those of other such messages are no damage.
+ * Every command on a store but set up and load first judges the whole store and state. Bytes that are not the image of any messages and
+ * groups that keep the rules are refused as damaged, never followed. Bytes changed into those of other such messages are no damage.
  *
  * Each function answers one of the numbers below. If several refusals apply, the lowest is answered. Out-parameters and output are
  * written only with WALLATHI_OK, and four numbers of a report with WALLATHI_NO_INTEGERS too; what is written to the output starts it, and
@@ -203,10 +203,10 @@ uint32_t wallathi_report(const uint8_t *store, size_t store_length, const uint8_
                          uint64_t *integers, int64_t *sum, int64_t *smallest, int64_t *largest);
 
 /*
- * Writes the live messages from the first ID to the last, both included, as a reply: * and their number, then for each of them *2, its ID as
- * the string ms-seq, * and twice the number of its pairs, and field and value of each pair in turn as strings. CR LF follows every number. A
- * string is $ and its length, CR LF, its bytes, CR LF. A first above the last is an empty range; the reply is *0 and CR LF then. A reply may
- * be many times as long as the store, which keeps names once that messages share: every message has its own here.
+ * Writes the live messages from the first ID to the last, both included, as a reply: * and their number, then for each of them *2, its ID
+ * as the string ms-seq, * and twice the number of its pairs, and field and value of each pair in turn as strings. CR LF follows every
+ * number. A string is $ and its length, CR LF, its bytes, CR LF. A first above the last is an empty range; the reply is *0 and CR LF then.
+ * A reply may be many times as long as the store, which keeps names once that messages share: every message has its own here.
  * WALLATHI_OK, or the refusals 2 and 8.
  */
 uint32_t wallathi_range_reply(const uint8_t *store, size_t store_length, const uint8_t *state, uint64_t first_ms, uint64_t first_seq,
@@ -219,16 +219,16 @@ uint32_t wallathi_range_reply(const uint8_t *store, size_t store_length, const u
 uint32_t wallathi_integer_reply(uint64_t number, uint8_t *output, size_t output_length, uint64_t *written);
 
 /*
- * Writes the reply to a command that was refused from the number of the refusal, 1 to 18 (18 is one of wallathi_index.h): -ERR, a space, the
- * number, CR LF.
+ * Writes the reply to a command that was refused from the number of the refusal, 1 to 18 (18 is one of wallathi_index.h): -ERR, a space,
+ * the number, CR LF.
  * WALLATHI_OK, or the refusals 3 (another number) and 8.
  */
 uint32_t wallathi_error_reply(uint64_t number, uint8_t *output, size_t output_length, uint64_t *written);
 
 /*
- * Reads a reply, strictly: the whole slice has to be what one of the three functions above writes, for a number, or for some list of messages
- * that a store may hold, in rising order of their IDs, which are above 0-0; the list may be longer than those of any store. Gives the kind
- * (WALLATHI_RANGE_REPLY, WALLATHI_INTEGER_REPLY or WALLATHI_ERROR_REPLY), and how many messages there are or the number.
+ * Reads a reply, strictly: the whole slice has to be what one of the three functions above writes, for a number, or for some list of
+ * messages that a store may hold, in rising order of their IDs, which are above 0-0; the list may be longer than those of any store. Gives
+ * the kind (WALLATHI_RANGE_REPLY, WALLATHI_INTEGER_REPLY or WALLATHI_ERROR_REPLY), and how many messages there are or the number.
  * WALLATHI_OK, or the refusal 3.
  */
 uint32_t wallathi_read_reply(const uint8_t *reply, size_t reply_length, uint64_t *kind, uint64_t *number);

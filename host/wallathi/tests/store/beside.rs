@@ -229,7 +229,7 @@ impl Beside {
         answer
     }
 
-    /// The bytes are the model's, without what was kept of earlier ones.
+    /// The bytes are the model's, without what was kept of earlier ones; replies on them read back.
     pub fn check(&mut self) {
         let model = self.model.model.as_ref().expect("commands keep an image");
         assert!(model.keeps_rules());
@@ -237,6 +237,7 @@ impl Beside {
         for side in &mut self.sides {
             side.compare(&Command::SetUp, model, &self.expected);
         }
+        self.check_replies();
     }
 }
 

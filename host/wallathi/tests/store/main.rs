@@ -12,6 +12,8 @@ mod lent;
 mod limits;
 mod lists;
 mod nodes;
+mod readers;
+mod replies;
 mod reports;
 mod sides;
 mod strings;
