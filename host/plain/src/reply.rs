@@ -43,6 +43,11 @@ pub fn bulk_size(length: usize) -> usize {
     line_size(length as u64) + length + 2
 }
 
+#[inline(always)]
+fn two_digits(number: u64) -> [u8; 2] {
+    [b'0' + (number / 10) as u8, b'0' + (number % 10) as u8]
+}
+
 /// Writes one thing after the other into an output that is long enough.
 pub struct Writer<'a> {
     out: &'a mut [u8],
@@ -60,20 +65,33 @@ impl<'a> Writer<'a> {
         self.at += bytes.len();
     }
 
+    /// Two digits at a time.
     #[inline(always)]
     fn number(&mut self, number: u64) {
         let end = self.at + digit_count(number);
-        let mut rest = number;
-        for digit in self.out[self.at..end].iter_mut().rev() {
-            *digit = b'0' + (rest % 10) as u8;
-            rest /= 10;
+        let digits = &mut self.out[self.at..end];
+        let (mut left, mut rest) = (digits.len(), number);
+        while left >= 2 {
+            left -= 2;
+            digits[left..left + 2].copy_from_slice(&two_digits(rest % 100));
+            rest /= 100;
+        }
+        if left == 1 {
+            digits[0] = b'0' + rest as u8;
         }
         self.at = end;
     }
 
-    /// A number after the byte that says what it is.
+    /// A number after the byte that says what it is. It seldom has more than two digits.
     #[inline(always)]
     pub fn line(&mut self, kind: u8, number: u64) {
+        if number < 10 {
+            return self.put(&[kind, b'0' + number as u8, b'\r', b'\n']);
+        }
+        if number < 100 {
+            let [high, low] = two_digits(number);
+            return self.put(&[kind, high, low, b'\r', b'\n']);
+        }
         self.put(&[kind]);
         self.number(number);
         self.put(b"\r\n");
@@ -83,6 +101,18 @@ impl<'a> Writer<'a> {
     pub fn bulk(&mut self, string: &[u8]) {
         self.line(b'$', string.len() as u64);
         self.put(string);
+        self.put(b"\r\n");
+    }
+
+    /// The bulk string of an integer's text.
+    #[inline(always)]
+    pub fn bulk_integer(&mut self, integer: i64) {
+        let number = integer.unsigned_abs();
+        self.line(b'$', (usize::from(integer < 0) + digit_count(number)) as u64);
+        if integer < 0 {
+            self.put(b"-");
+        }
+        self.number(number);
         self.put(b"\r\n");
     }
 
