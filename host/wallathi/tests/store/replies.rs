@@ -190,6 +190,13 @@ fn pairs_at_their_limits() {
     for count in [0, 33, 34, 49, 50, 64, 128, 500] {
         assert_eq!(read(&alone(vec![(b"f".to_vec(), vec![]); count])), Err(3), "{count}");
     }
+    // A field without a value.
+    for strings in 0..=66 {
+        let bulks = "$1\r\ns\r\n".repeat(strings);
+        let reply = format!("*1\r\n*2\r\n$3\r\n7-1\r\n*{strings}\r\n{bulks}");
+        let is_message = strings % 2 == 0 && (2..=64).contains(&strings);
+        assert_eq!(read(reply.as_bytes()).is_ok(), is_message, "{strings}");
+    }
 }
 
 /// As a field and as a value, where a length gets a digit more, up to 1,000.
