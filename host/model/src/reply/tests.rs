@@ -6,6 +6,11 @@ fn message(pairs: &[(&str, &str)]) -> Message {
     pairs.iter().map(|(field, value)| (field.as_bytes().to_vec(), value.as_bytes().to_vec())).collect()
 }
 
+/// The texts between the bars, where a tilde is the end of a line.
+fn cases(texts: &str) -> Vec<String> {
+    texts.split('|').map(|text| text.replace('~', "\r\n")).collect()
+}
+
 /// A range reply of one message with this ID and one pair.
 fn with_id(id: &str) -> Vec<u8> {
     let length = id.len();
@@ -49,24 +54,11 @@ fn replies_byte_by_byte() {
 
 #[test]
 fn other_numbers_are_refused() {
-    for number in
-        ["6401", "00", "07", "+1", "-1", "-0", "", " 1", "1 ", "0x1", "4294967296", "18446744073709551616"]
-    {
-        assert_eq!(read(format!(":{number}\r\n").as_bytes()), Err(Refused), "{number}");
-    }
-    for number in ["0", "19", "01", "+1", "-1", "", " 1", "1 ", "3 bad", "4294967297"] {
-        assert_eq!(read(format!("-ERR {number}\r\n").as_bytes()), Err(Refused), "{number}");
-    }
-    for text in [
-        "-ERR\r\n",
-        "-ERR  1\r\n",
-        "-err 1\r\n",
-        "-1\r\n",
-        "ERR 1\r\n",
-        "-ERR 1\n",
-        "-ERR 1\r\r\n",
-        "-ERR 1\r\n\r\n",
-    ] {
+    let integers = ":6401~|:00~|:07~|:+1~|:-1~|:-0~|:~|: 1~|:1 ~|:0x1~|:4294967296~|:18446744073709551616~";
+    let errors =
+        "-ERR 0~|-ERR 19~|-ERR 01~|-ERR +1~|-ERR -1~|-ERR ~|-ERR  1~|-ERR 1 ~|-ERR 3 bad~|-ERR 4294967297~|\
+                  -ERR~|-err 1~|-1~|ERR 1~|-ERR 1\n|-ERR 1\r~|-ERR 1~~";
+    for text in cases(integers).into_iter().chain(cases(errors)) {
         assert_eq!(read(text.as_bytes()), Err(Refused), "{text:?}");
     }
 }
@@ -74,82 +66,27 @@ fn other_numbers_are_refused() {
 /// What the protocol has and the store never writes.
 #[test]
 fn other_forms_are_refused() {
-    let cases = [
-        "",
-        "\n",
-        "\r\n",
-        "*",
-        "*\r\n",
-        "*0",
-        "*0\r",
-        "*0\n",
-        "*0\r\r",
-        "0\r\n",
-        "*00\r\n",
-        "*-1\r\n",
-        "*+0\r\n",
-        "*0\r\n ",
-        "*0\r\n*0\r\n",
-        "+OK\r\n",
-        "$-1\r\n",
-        "$0\r\n\r\n",
-        "$1\r\na\r\n",
-        "*1\r\n",
-        "*1\r\n*0\r\n",
-        "*1\r\n:1\r\n",
-        "*1\r\n*1\r\n*1\r\n*1\r\n*0\r\n",
-        "*2\r\n$3\r\n5-0\r\n*2\r\n$1\r\na\r\n$1\r\n1\r\n",
-        "*1\r\n*2\r\n$3\r\n5-0\r\n*0\r\n",
-        "*1\r\n*2\r\n$3\r\n5-0\r\n*-1\r\n",
-        "*1\r\n*2\r\n$3\r\n5-0\r\n*1\r\n$1\r\na\r\n",
-        "*1\r\n*2\r\n$3\r\n5-0\r\n*3\r\n$1\r\na\r\n$1\r\na\r\n$1\r\na\r\n",
-        "*1\r\n*3\r\n$3\r\n5-0\r\n*2\r\n$1\r\na\r\n$1\r\n1\r\n$0\r\n\r\n",
-        "*1\r\n*2\r\n$3\r\n5-0\r\n*2\r\n$1\r\na\r\n:1\r\n",
-        "*1\r\n*2\r\n$3\r\n5-0\r\n*2\r\n$1\r\na\r\n$-1\r\n",
-        "*1\r\n*2\r\n$3\r\n5-0\r\n*2\r\n$01\r\na\r\n$1\r\n1\r\n",
-        "*1\r\n*2\r\n$3\r\n5-0\r\n*2\r\n$1\r\na\r\n$1\r\n1\n\n",
-        "*1\r\n*02\r\n$3\r\n5-0\r\n*2\r\n$1\r\na\r\n$1\r\n1\r\n",
-        "*1\r\n*2\r\n*2\r\n$1\r\na\r\n$1\r\n1\r\n$3\r\n5-0\r\n",
-        "*18446744073709551615\r\n",
-        "*18446744073709551616\r\n",
-        "*1\r\n*2\r\n$18446744073709551615\r\n5-0\r\n",
-        "*1\r\n*2\r\n$1000\r\n5-0\r\n",
-        "*000000000000000000000000000000\r\n",
-    ];
-    for text in cases {
+    let outer = "|\n|~|*|*~|*0|*0\r|*0\n|*0\r\r|0~|*00~|*-1~|*+0~|*0~ |*0~*0~|+OK~|$-1~|$0~~|$1~a~|*1~|*1~*0~|*1~:1~|\
+                 *1~*1~*1~*1~*0~|*2~$3~5-0~*2~$1~a~$1~1~|*18446744073709551615~|*18446744073709551616~|\
+                 *000000000000000000000000000000~";
+    let inner = "*2~$3~5-0~*0~|*2~$3~5-0~*-1~|*2~$3~5-0~*1~$1~a~|*2~$3~5-0~*3~$1~a~$1~a~$1~a~|*3~$3~5-0~*2~$1~a~$1~1~$0~~|\
+                 *2~$3~5-0~*2~$1~a~:1~|*2~$3~5-0~*2~$1~a~$-1~|*2~$3~5-0~*2~$01~a~$1~1~|*2~$3~5-0~*2~$1~a~$1~1\n\n|\
+                 *02~$3~5-0~*2~$1~a~$1~1~|*2~*2~$1~a~$1~1~$3~5-0~|*2~$18446744073709551615~5-0~|*2~$1000~5-0~";
+    let inner = cases(inner).into_iter().map(|text| format!("*1\r\n{text}"));
+    for text in cases(outer).into_iter().chain(inner) {
         assert_eq!(read(text.as_bytes()), Err(Refused), "{text:?}");
     }
 }
 
 #[test]
 fn ids_are_above_the_least_and_strict() {
-    for id in ["0-1", "1-0", "0-18446744073709551615", "18446744073709551615-0"] {
-        assert!(read(&with_id(id)).is_ok(), "{id}");
+    for id in cases("0-1|1-0|0-18446744073709551615|18446744073709551615-0") {
+        assert!(read(&with_id(&id)).is_ok(), "{id}");
     }
-    let others = [
-        "0-0",
-        "",
-        "-",
-        "1",
-        "1-",
-        "-1",
-        "01-0",
-        "1-00",
-        "00-1",
-        "+1-0",
-        "1-+1",
-        "1--1",
-        "1-1-1",
-        " 1-0",
-        "1 -0",
-        "1-0 ",
-        "1_0",
-        "18446744073709551616-0",
-        "0-18446744073709551616",
-        "1-a",
-    ];
-    for id in others {
-        assert_eq!(read(&with_id(id)), Err(Refused), "{id}");
+    let others = "0-0||-|1|1-|-1|01-0|1-00|00-1|+1-0|1-+1|1--1|1-1-1| 1-0|1 -0|1-0 |1_0|1-a|\
+                  18446744073709551616-0|0-18446744073709551616";
+    for id in cases(others) {
+        assert_eq!(read(&with_id(&id)), Err(Refused), "{id}");
     }
 }
 

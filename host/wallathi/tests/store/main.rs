@@ -16,6 +16,7 @@ mod readers;
 mod replies;
 mod reports;
 mod sides;
+mod strict;
 mod strings;
 
 use std::env;
