@@ -88,19 +88,18 @@ impl Bench {
     }
 }
 
-/// Each row: its name, the bytes of the reply, and both figures.
+/// Each row: its name, the bytes of the reply, and both figures. Of one message the judgement is nearly all, so that nothing can be said of
+/// the rest.
 fn rows(figures: impl Fn(usize, Work) -> [f64; 2]) -> Vec<(String, f64, [f64; 2])> {
-    let of_store = |(store, fill): (usize, &Fill)| {
+    let of_store = |(store, fill): (usize, &'static Fill)| {
         let [judged, written, read, message] = WORKS.map(|work| figures(store, work));
         let beyond = [written[0] - judged[0], written[1] - judged[1]];
-        let rows = [
-            ("range reply", written),
-            ("range reply, beyond the judgement", beyond),
-            ("read reply", read),
-            ("message of a reply", message),
-        ];
+        let mut rows = vec![("range reply", written), ("read reply", read), ("message of a reply", message)];
+        if fill.messages() > 1 {
+            rows.insert(1, ("range reply, beyond the judgement", beyond));
+        }
         let bytes = Bench::new(fill).reply.len() as f64;
-        rows.map(|(name, both)| (format!("{name}, {}", fill.name), bytes, both))
+        rows.into_iter().map(move |(name, both)| (format!("{name}, {}", fill.name), bytes, both))
     };
     FILLS.iter().take(STORES).enumerate().flat_map(of_store).collect()
 }
