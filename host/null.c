@@ -7,7 +7,7 @@
 
 #include "wallathi.h"
 
-enum { STORE = 1, FIRST = 2, SECOND = 4, OUTPUT = 8, ALL = 15, LOAD = 19, COMMANDS };
+enum { STORE = 1, FIRST = 2, SECOND = 4, OUTPUT = 8, ALL = 15, READ_REPLY = 22, LOAD = 25, COMMANDS };
 
 struct slice {
     uint8_t *at;
@@ -23,8 +23,8 @@ struct lent {
 
 static struct lent fresh, used, with_null, with_empty;
 static uint8_t slip[] = {2, 1, 0, 'a', 2, 0, '2', '1', 0, 0, 0, 0};
-static uint8_t name[] = "group", file[8192], elsewhere[1];
-static uint64_t file_length;
+static uint8_t name[] = "group", file[8192], reply[256], elsewhere[1];
+static uint64_t file_length, reply_length;
 
 /* Which slices a command takes. */
 static const unsigned taken[COMMANDS] = {
@@ -47,10 +47,19 @@ static const unsigned taken[COMMANDS] = {
     ALL,                      /* group read of a batch that the output holds */
     ALL,                      /* the same of one message */
     STORE | FIRST,            /* report */
+    STORE | OUTPUT,           /* range reply */
+    OUTPUT,                   /* integer reply */
+    OUTPUT,                   /* error reply */
+    FIRST,                    /* read a reply */
+    FIRST | OUTPUT,           /* message of a reply */
+    FIRST | OUTPUT,           /* the same past its end */
     STORE | FIRST,            /* load */
 };
 
-/* The command with these slices: the store, a slip, name, group or file, a consumer, the output. Its numbers go to v and, with a sign, w. */
+/*
+ * The command with these slices: the store, a slip, name, group, reply or file, a consumer, the output. Its numbers go to v and, with a
+ * sign, w.
+ */
 static uint32_t call(int command, uint8_t *state, struct slice s, struct slice f, struct slice c, struct slice o, uint64_t *v,
                      int64_t *w)
 {
@@ -78,6 +87,12 @@ static uint32_t call(int command, uint8_t *state, struct slice s, struct slice f
                                         o.length, v);
     case 18:
         return wallathi_report(s.at, s.length, state, f.at, f.length, 0, 0, 9, 9, v, v + 1, v + 2, w, w + 1, w + 2);
+    case 19: return wallathi_range_reply(s.at, s.length, state, 0, 0, 9, 9, o.at, o.length, v);
+    case 20: return wallathi_integer_reply(12, o.at, o.length, v);
+    case 21: return wallathi_error_reply(12, o.at, o.length, v);
+    case READ_REPLY: return wallathi_read_reply(f.at, f.length, v, v + 1);
+    case 23:
+    case 24: return wallathi_reply_message(f.at, f.length, command == 23 ? 0 : 1, o.at, o.length, v, v + 1, v + 2);
     default: return wallathi_load(s.at, s.length, state, f.at, f.length);
     }
 }
@@ -105,6 +120,9 @@ static uint32_t call_without(int command, unsigned without, uint8_t *empty, stru
     } else if (command == LOAD) {
         first.at = file;
         first.length = (size_t)file_length;
+    } else if (command >= READ_REPLY) {
+        first.at = reply;
+        first.length = (size_t)reply_length;
     }
     return call(command, lent->state, either(STORE, without, empty, lent->store, sizeof lent->store),
                 either(FIRST, without, empty, first.at, first.length), either(SECOND, without, empty, name, sizeof name - 1),
@@ -138,6 +156,7 @@ int main(void)
     ok &= wallathi_add(used.store, sizeof used.store, used.state, 5, 0, slip, sizeof slip, &ms, &seq) == WALLATHI_OK;
     ok &= wallathi_create_group(used.store, sizeof used.store, used.state, name, sizeof name - 1, 0, 0) == WALLATHI_OK;
     ok &= wallathi_save(used.store, sizeof used.store, used.state, file, sizeof file, &file_length) == WALLATHI_OK;
+    ok &= wallathi_range_reply(used.store, sizeof used.store, used.state, 0, 0, 9, 9, reply, sizeof reply, &reply_length) == WALLATHI_OK;
     for (command = 0; command < COMMANDS; command++) {
         unsigned without;
         for (without = 1; without <= ALL; without++) {

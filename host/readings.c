@@ -1,6 +1,6 @@
 /*
- * A logger at a station: readings go into a store that lives in bytes of this program, a report counts them, two workers take them from a
- * group, and a snapshot moves all of it to another store. From the repository:
+ * A logger at a station: readings go into a store that lives in bytes of this program, a report counts them, a reply hands some to a client
+ * of the Redis protocol, two workers take them from a group, and a snapshot moves all of it to another store. From the repository:
  *
  *     cc -std=c99 -Ihost/include host/readings.c target/staticlib/libwallathi.a -o readings
  */
@@ -14,7 +14,7 @@
 
 static uint8_t store[SLOTS * WALLATHI_SLOT_BYTES], state[WALLATHI_STATE_BYTES];
 static uint8_t other_store[SLOTS * WALLATHI_SLOT_BYTES], other_state[WALLATHI_STATE_BYTES];
-static uint8_t snapshot[WALLATHI_LONGEST_SNAPSHOT];
+static uint8_t snapshot[WALLATHI_LONGEST_SNAPSHOT], reply[4096];
 
 /* What an answer without a value says. */
 static const char *word(uint32_t answer)
@@ -115,6 +115,39 @@ static void report(const char *field)
     printf("\n");
 }
 
+/* The lines of a reply, a space between them. */
+static void show_reply(uint64_t length)
+{
+    uint64_t i;
+
+    printf("reply:");
+    for (i = 0; i + 1 < length; i++) {
+        if (i == 0 || (reply[i - 1] == '\r' && reply[i] == '\n'))
+            printf(" ");
+        if (reply[i] != '\r' && reply[i] != '\n')
+            printf("%c", reply[i]);
+    }
+    printf("\n");
+}
+
+/* What a client is handed of the readings from a time on, and what it finds there. */
+static void hand_on(uint64_t from)
+{
+    uint8_t slip[WALLATHI_LONGEST_SLIP];
+    uint64_t length, kind, messages, place, ms, seq, slip_length;
+    uint32_t answer =
+        wallathi_range_reply(store, sizeof store, state, from, 0, UINT64_MAX, UINT64_MAX, reply, sizeof reply, &length);
+
+    if (answer != WALLATHI_OK && wallathi_error_reply(answer, reply, sizeof reply, &length) != WALLATHI_OK)
+        return;
+    show_reply(length);
+    if (wallathi_read_reply(reply, (size_t)length, &kind, &messages) != WALLATHI_OK || kind != WALLATHI_RANGE_REPLY)
+        return;
+    for (place = 0; place < messages; place++)
+        if (wallathi_reply_message(reply, (size_t)length, place, slip, sizeof slip, &ms, &seq, &slip_length) == WALLATHI_OK)
+            printf("    %u-%u, pairs: %u\n", (unsigned)ms, (unsigned)seq, slip[0]);
+}
+
 /* A worker of the group takes the next reading. */
 static void take(const char *worker, uint64_t now)
 {
@@ -178,6 +211,8 @@ int main(void)
     list();
     report("amplitude");
     report("note");
+    hand_on(1250);
+    hand_on(1251);
     printf("group: %s\n", word(wallathi_create_group(store, sizeof store, state, (const uint8_t *)"picks", 5, 0, 0)));
     take("Mere", 2000);
     take("Tane", 2010);
@@ -195,5 +230,6 @@ int main(void)
     move_by_snapshot();
     store[0] ^= 1;
     reading(3000, "16", NULL);
+    hand_on(0);
     return 0;
 }

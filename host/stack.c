@@ -13,7 +13,9 @@
 
 #define PATTERN 0xB7
 #define STACK (1 << 20)
-#define COMMANDS 19
+/* From this one on they need no store. */
+#define REPLIES 19
+#define COMMANDS 24
 #define KEY_BYTES 16
 
 /* Of the index in the state (docs/FORMAT.md). */
@@ -29,12 +31,12 @@ struct id {
 
 static uint8_t store[64 * WALLATHI_SLOT_BYTES], state[WALLATHI_STATE_BYTES];
 static uint8_t copy[64 * WALLATHI_SLOT_BYTES], copied_state[WALLATHI_STATE_BYTES];
-static uint8_t output[WALLATHI_LONGEST_SNAPSHOT], file[WALLATHI_LONGEST_SNAPSHOT];
+static uint8_t output[WALLATHI_LONGEST_SNAPSHOT], file[WALLATHI_LONGEST_SNAPSHOT], reply[WALLATHI_LONGEST_SNAPSHOT];
 static uint8_t stack[STACK];
 static uint8_t slip[1 + 3 * (4 + 1 + 700) + 4 + 1 + 1];
 static size_t slip_length;
 static struct id new_id, old_id;
-static uint64_t file_length, a, b, c, d, e;
+static uint64_t file_length, reply_length, a, b, c, d, e;
 static int64_t sum, smallest, largest;
 static int command;
 static uint32_t answer;
@@ -69,6 +71,13 @@ static void run(void)
         answer = wallathi_report(copy, n, copied_state, (const uint8_t *)"d", 1, 0, 0, UINT64_MAX, UINT64_MAX, &a, &b, &c, &sum,
                                  &smallest, &largest);
         break;
+    case 18:
+        answer = wallathi_range_reply(copy, n, copied_state, 0, 0, UINT64_MAX, UINT64_MAX, output, sizeof output, &a);
+        break;
+    case REPLIES: answer = wallathi_integer_reply(6400, output, sizeof output, &a); break;
+    case 20: answer = wallathi_error_reply(18, output, sizeof output, &a); break;
+    case 21: answer = wallathi_read_reply(reply, (size_t)reply_length, &a, &b); break;
+    case 22: answer = wallathi_reply_message(reply, (size_t)reply_length, 62, output, sizeof output, &a, &b, &c); break;
     default: answer = wallathi_load(copy, n, copied_state, file, (size_t)file_length); break;
     }
 }
@@ -118,6 +127,13 @@ static void fill_groups(uint64_t messages)
     }
 }
 
+/* Keeps the store's snapshot, and the reply of all its messages. */
+static void keep(void)
+{
+    wallathi_save(store, sizeof store, state, file, sizeof file, &file_length);
+    wallathi_range_reply(store, sizeof store, state, 0, 0, UINT64_MAX, UINT64_MAX, reply, sizeof reply, &reply_length);
+}
+
 /* Messages of which four make a node, so that the next one needs the last free slot. */
 static void fill_wide(void)
 {
@@ -127,7 +143,7 @@ static void fill_wide(void)
     for (; id.ms <= 63 * 4; id.ms++)
         add(id);
     fill_groups(63 * 4 - 1);
-    wallathi_save(store, sizeof store, state, file, sizeof file, &file_length);
+    keep();
     new_id.ms = 1 << 20;
     new_id.seq = 0;
     old_id.ms = 100;
@@ -160,7 +176,7 @@ static void fill_deep(void)
     for (number = 0; number < 64; number++)
         add(deep_key(number));
     fill_groups(62);
-    wallathi_save(store, sizeof store, state, file, sizeof file, &file_length);
+    keep();
     old_id = deep_key(63);
     wallathi_delete(store, sizeof store, state, old_id.ms, old_id.seq, &a);
     new_id = deep_key(64);
@@ -201,7 +217,7 @@ static size_t needed(void)
     return sizeof stack - untouched;
 }
 
-/* The most that a command needed on the store. All but set up and load give this answer. */
+/* The most that a command needed on the store. All that judge it give this answer. */
 static size_t most_needed(uint32_t expected, int each)
 {
     size_t most = 0;
@@ -209,7 +225,7 @@ static size_t most_needed(uint32_t expected, int each)
         size_t bytes = needed();
         if (each)
             printf("command %d answered %u, %u bytes\n", command, (unsigned)answer, (unsigned)bytes);
-        if (answer != (command == 0 || command == COMMANDS - 1 ? WALLATHI_OK : expected)) {
+        if (answer != (command == 0 || command >= REPLIES ? WALLATHI_OK : expected)) {
             printf("command %d answered %u\n", command, (unsigned)answer);
             return STACK;
         }

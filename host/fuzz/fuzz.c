@@ -1,5 +1,5 @@
-/* Any bytes as commands, arguments, store, state and file: no call may crash, and a call that does not answer 0 may change nothing, but for
- * four numbers of a report over no integer.
+/* Any bytes as commands, arguments, store, state, file and reply: no call may crash, and a call that does not answer 0 may change nothing, but
+ * for four numbers of a report over no integer. What is written as a reply reads back.
  *
  * With clang: clang -fsanitize=fuzzer -Iinclude fuzz/fuzz.c fuzz/stores.c libwallathi.a. The library has no counters of its own, so what it answers and
  * what the store is like afterwards is counted here, where libFuzzer looks (`struct trace`): an input that brings something new is kept.
@@ -13,7 +13,7 @@
 #include "start.h"
 #include "wallathi.h"
 
-enum { OUT_BYTES = 40000, VALUES = 5, LOAD = 19, COMMANDS, ANSWERS = 64, SIZES = 65 };
+enum { OUT_BYTES = 40000, VALUES = 5, READ_REPLY = 21, LOAD = 24, COMMANDS, ANSWERS = 64, SIZES = 65 };
 
 /* Of a group's region in the state (docs/FORMAT.md). */
 enum { REGIONS_AT = 6674, REGION_BYTES = 7220, CONSUMERS_AT = 33, PENDING_AT = 306, GROUPS = 8 };
@@ -126,6 +126,47 @@ static const uint8_t *name(struct input *in, size_t *length)
     return letters + (kind % 2 == 0 ? kind / 16 % 3 : number(in, 1) % 20);
 }
 
+static uint8_t last_reply[OUT_BYTES];
+static size_t last_length;
+
+/* Keeps what a call has written as the last reply. */
+static uint32_t replied(uint32_t code)
+{
+    if (code == 0) {
+        last_length = (size_t)now.values[0];
+        memcpy(last_reply, now.out, last_length);
+    }
+    return code;
+}
+
+/* The last reply, mostly changed by the input, or bytes of the input; read, or one of its messages. */
+static uint32_t read_reply(struct input *in, unsigned command, size_t room)
+{
+    static uint8_t reply[OUT_BYTES];
+    const uint8_t *at = reply;
+    size_t length = last_length, changes = (size_t)number(in, 1) % 5;
+    uint64_t *v = now.values;
+    uint32_t code;
+    int whole = changes == 0 && length != 0;
+    memcpy(reply, last_reply, length);
+    if (changes == 4) {
+        at = slice(in, 3000, &length);
+    } else {
+        for (; changes != 0 && length != 0; changes--) {
+            reply[number(in, 2) % length] = (uint8_t)number(in, 1);
+        }
+    }
+    if (command != READ_REPLY) {
+        return wallathi_reply_message(at, length, half(in), now.out, room, v, v + 1, v + 2);
+    }
+    code = wallathi_read_reply(at, length, v, v + 1);
+    if (whole && code != 0) {
+        fprintf(stderr, "fuzz: a reply does not read back\n");
+        abort();
+    }
+    return code;
+}
+
 static uint32_t call(struct input *in, unsigned command)
 {
     size_t m, n, room = (size_t)number(in, 2) % (OUT_BYTES + 1), size = store_length;
@@ -183,6 +224,17 @@ static uint32_t call(struct input *in, unsigned command)
         a = name(in, &m), x = half(in), y = half(in), last_x = half(in), last_y = half(in);
         return wallathi_report(now.store, size, now.state, a, m, x, y, number(in, 1) % 2 == 0 ? UINT64_MAX : last_x, last_y, v, v + 1,
                                v + 2, &now.sum, &now.smallest, &now.largest);
+    case 18:
+        x = half(in), y = half(in), last_x = half(in), last_y = half(in);
+        return replied(wallathi_range_reply(now.store, size, now.state, x, y, number(in, 1) % 2 == 0 ? UINT64_MAX : last_x, last_y, now.out,
+                                            room, v));
+    case 19:
+        return replied(wallathi_integer_reply(half(in), now.out, room, v));
+    case 20:
+        return replied(wallathi_error_reply(half(in), now.out, room, v));
+    case READ_REPLY:
+    case 22:
+        return read_reply(in, command, room);
     default:
         return wallathi_save(now.store, size, now.state, now.out, room, v);
     }
@@ -255,6 +307,7 @@ static void start(struct input *in)
     size_t length;
     const uint8_t *file;
     memset(&now, 0, sizeof now);
+    last_length = 0;
     store_length = lengths[number(in, 1) % 8];
     /* The whole store is set up, so that a good state stands beside a store without a slot too. */
     wallathi_set_up(now.store, sizeof now.store, now.state);

@@ -10,8 +10,12 @@
  * 1,000 bytes. It travels as a slip: one byte for the number of pairs, then field, value, field, value, .., each a length of 2 bytes,
  * little-endian, and its bytes. Names of groups and consumers have 1 to 16 bytes.
  *
- * Every command but set up and load first judges the whole store and state. Bytes that are not the image of any messages and groups that
- * keep the rules are refused as damaged, never followed. Bytes changed into those of other such messages are no damage.
+ * For clients of the Redis protocol there are replies in RESP2, its version 2: the messages of a range, counts and refusals, and a strict
+ * reader of them. Beside each function stands what it writes; CR LF is the bytes 13 and 10, and every number is decimal, without sign and
+ * leading zero.
+ *
+ * Every command on a store but set up and load first judges the whole store and state. Bytes that are not the image of any messages and
+ * groups that keep the rules are refused as damaged, never followed. Bytes changed into those of other such messages are no damage.
  *
  * Each function answers one of the numbers below. If several refusals apply, the lowest is answered. Out-parameters and output are
  * written only with WALLATHI_OK, and four numbers of a report with WALLATHI_NO_INTEGERS too; what is written to the output starts it, and
@@ -23,7 +27,8 @@
  * must not overlap anything else that is handed to the same call. Calls on different stores may run at the same time, and so may reading
  * calls on one.
  *
- * What a call costs: the judgement reads every byte of the slots and of the state. docs/PERFORMANCE.md has figures.
+ * What a call costs: the judgement reads every byte of the slots and of the state, the reader of replies every byte of the reply.
+ * docs/PERFORMANCE.md has figures.
  *
  *     static uint8_t store[4 * WALLATHI_SLOT_BYTES], state[WALLATHI_STATE_BYTES];
  *     static const uint8_t slip[] = {1, 4, 0, 't', 'e', 'm', 'p', 2, 0, '2', '1'};
@@ -56,7 +61,7 @@ extern "C" {
 /* A message has 1 to this many pairs; a field and a value have 0 to this many bytes each. */
 #define WALLATHI_MOST_PAIRS 32
 #define WALLATHI_LONGEST_STRING 1000
-/* An output of this length suffices for every read, and for every value that field writes. */
+/* An output of this length suffices for every read, for every value that field writes, and for every message of a reply. */
 #define WALLATHI_LONGEST_SLIP 5353
 /* An output of this length suffices for every save. */
 #define WALLATHI_LONGEST_SNAPSHOT 321604
@@ -66,6 +71,16 @@ extern "C" {
 #define WALLATHI_LARGEST_BATCH 256
 /* An ID has this many bytes in the output of a batch. */
 #define WALLATHI_ID_BYTES 16
+/* The number of an integer reply is 0 to this one. */
+#define WALLATHI_LARGEST_INTEGER_REPLY 6400
+/* The number of an error reply is 1 to this one. */
+#define WALLATHI_LAST_ERROR_REPLY 18
+/* An output of this length suffices for every integer reply and every error reply. */
+#define WALLATHI_LONGEST_NUMBER_REPLY 9
+/* The kinds of replies: a range of messages, an integer, an error. */
+#define WALLATHI_RANGE_REPLY 1
+#define WALLATHI_INTEGER_REPLY 2
+#define WALLATHI_ERROR_REPLY 3
 /* Answers from 1 to this one are refusals; later versions may use those that are not named below. */
 #define WALLATHI_LAST_REFUSAL 31
 
@@ -75,7 +90,10 @@ extern "C" {
 #define WALLATHI_NO_SLOT 1
 /* refused: store and state are not the image of any messages and groups */
 #define WALLATHI_DAMAGED 2
-/* refused: the slip is none, a name does not have its length, or a batch is to have over 256 messages */
+/*
+ * refused: the slip or the reply is none, a name does not have its length, a batch is to have over 256 messages, or there is no reply of
+ * the number
+ */
 #define WALLATHI_BAD_ARGUMENT 3
 /* refused: the ID is not above the last ID that was given */
 #define WALLATHI_LOW_ID 4
@@ -85,7 +103,7 @@ extern "C" {
 #define WALLATHI_LONG_MESSAGE 6
 /* refused: the message needs a slot of its own and none is free */
 #define WALLATHI_FULL 7
-/* refused: the output is shorter than the answer (read, field, save), or than as many IDs as are asked for (batch) */
+/* refused: the output is shorter than the answer (read, field, replies, save), or than as many IDs as are asked for (batch) */
 #define WALLATHI_SHORT_OUTPUT 8
 /* refused: there is no such group */
 #define WALLATHI_NO_GROUP 9
@@ -183,6 +201,44 @@ uint32_t wallathi_field(const uint8_t *store, size_t store_length, const uint8_t
 uint32_t wallathi_report(const uint8_t *store, size_t store_length, const uint8_t *state, const uint8_t *name, size_t name_length,
                          uint64_t first_ms, uint64_t first_seq, uint64_t last_ms, uint64_t last_seq, uint64_t *lacking, uint64_t *other,
                          uint64_t *integers, int64_t *sum, int64_t *smallest, int64_t *largest);
+
+/*
+ * Writes the live messages from the first ID to the last, both included, as a reply: * and their number, then for each of them *2, its ID
+ * as the string ms-seq, * and twice the number of its pairs, and field and value of each pair in turn as strings. CR LF follows every
+ * number. A string is $ and its length, CR LF, its bytes, CR LF. A first above the last is an empty range; the reply is *0 and CR LF then.
+ * A reply may be many times as long as the store, which keeps names once that messages share: every message has its own here.
+ * WALLATHI_OK, or the refusals 2 and 8.
+ */
+uint32_t wallathi_range_reply(const uint8_t *store, size_t store_length, const uint8_t *state, uint64_t first_ms, uint64_t first_seq,
+                              uint64_t last_ms, uint64_t last_seq, uint8_t *output, size_t output_length, uint64_t *written);
+
+/*
+ * Writes the reply to a delete, a trim or an acknowledgement from its count, 0 to 6,400: a colon, the number, CR LF.
+ * WALLATHI_OK, or the refusals 3 (another number) and 8.
+ */
+uint32_t wallathi_integer_reply(uint64_t number, uint8_t *output, size_t output_length, uint64_t *written);
+
+/*
+ * Writes the reply to a command that was refused from the number of the refusal, 1 to 18 (18 is one of wallathi_index.h): -ERR, a space,
+ * the number, CR LF.
+ * WALLATHI_OK, or the refusals 3 (another number) and 8.
+ */
+uint32_t wallathi_error_reply(uint64_t number, uint8_t *output, size_t output_length, uint64_t *written);
+
+/*
+ * Reads a reply, strictly: the whole slice has to be what one of the three functions above writes, for a number, or for some list of
+ * messages that a store may hold, in rising order of their IDs, which are above 0-0; the list may be longer than those of any store. Gives
+ * the kind (WALLATHI_RANGE_REPLY, WALLATHI_INTEGER_REPLY or WALLATHI_ERROR_REPLY), and how many messages there are or the number.
+ * WALLATHI_OK, or the refusal 3.
+ */
+uint32_t wallathi_read_reply(const uint8_t *reply, size_t reply_length, uint64_t *kind, uint64_t *number);
+
+/*
+ * Writes the message at a place of a range reply, from 0, as a slip, and gives its ID. Each call reads the whole reply.
+ * WALLATHI_OK, WALLATHI_NONE (the place is past the end), or the refusals 3 (not a range reply) and 8 (there is such a message).
+ */
+uint32_t wallathi_reply_message(const uint8_t *reply, size_t reply_length, uint64_t place, uint8_t *output, size_t output_length,
+                                uint64_t *id_ms, uint64_t *id_seq, uint64_t *written);
 
 /*
  * Creates a group. What comes after the start ID is delivered to it; 0-0 begins with the oldest message. The start may lie above the

@@ -5,6 +5,7 @@ use crate::id::Id;
 use crate::ledger::{Command, Ledger, Store, LARGEST_REPORTED};
 use crate::message::{Message, Name};
 use crate::node::{self, Node};
+use crate::reply::{Reply, LAST_REFUSAL, MOST_COUNTED};
 use crate::rng::Rng;
 use crate::slip;
 use crate::snapshot;
@@ -135,6 +136,23 @@ pub fn group(rng: &mut Rng) -> (Name, Group) {
     (name, group)
 }
 
+/// A reply that is one: mostly of a few messages.
+pub fn reply(rng: &mut Rng) -> Reply {
+    match rng.below(8) {
+        0 => Reply::Integer(rng.below(MOST_COUNTED + 1)),
+        1 => Reply::Error(1 + rng.below(LAST_REFUSAL)),
+        _ => {
+            let mut messages: Vec<(Id, Message)> = Vec::new();
+            for _ in 0..rng.below(5) {
+                let last = messages.last().map_or(Id::LEAST, |&(id, _)| id);
+                let Some(id) = id_above(rng, last) else { break };
+                messages.push((id, message_that_fits(rng)));
+            }
+            Reply::Range(messages)
+        }
+    }
+}
+
 /// The name of one of some 20 consumers.
 fn consumer(rng: &mut Rng) -> Name {
     let number = rng.below(20);
@@ -193,6 +211,7 @@ impl Commands {
             537..=576 => Command::Read { id: self.id(ledger), room: self.room() },
             577..=616 => Command::Field { id: self.id(ledger), name: self.field_name(), room: self.room() },
             617..=646 => self.report(ledger),
+            647..=666 => self.range_reply(ledger),
             _ => self.group_command(ledger),
         }
     }
@@ -204,13 +223,31 @@ impl Commands {
             Some(pairs) if !self.rng.one_in(4) => self.rng.pick(pairs).0.clone(),
             _ => self.field_name(),
         };
+        let (first, last) = self.range(ledger);
+        Command::Report { name, first, last }
+    }
+
+    /// Mostly an output that just holds the reply.
+    fn range_reply(&mut self, ledger: &Ledger) -> Command {
+        let (first, last) = self.range(ledger);
+        let exact = ledger.range_reply(first, last).to_bytes().len();
+        let room = match self.rng.below(8) {
+            0 => exact - 1,
+            1 => self.rng.size_below(exact),
+            2 => exact + self.rng.size_below(40),
+            _ => exact,
+        };
+        Command::RangeReply { first, last, room }
+    }
+
+    /// The whole, or mostly from one ID up to another.
+    fn range(&mut self, ledger: &Ledger) -> (Id, Id) {
         let (one, other) = (self.id(ledger), self.id(ledger));
-        let (first, last) = match self.rng.below(6) {
+        match self.rng.below(6) {
             0..=1 => (Id::LEAST, Id::GREATEST),
             2 => (one, other),
             _ => (one.min(other), one.max(other)),
-        };
-        Command::Report { name, first, last }
+        }
     }
 
     fn group_command(&mut self, ledger: &Ledger) -> Command {
@@ -409,6 +446,7 @@ mod tests {
             assert!(is_message(&message(&mut rng)));
             assert!(node(&mut rng).keeps_rules());
             assert!(group(&mut rng).1.keeps_rules());
+            assert!(reply(&mut rng).keeps_rules());
             let id = Id::new(rng.next(), rng.next());
             assert!(id_above(&mut rng, id).is_none_or(|above| above > id));
         }

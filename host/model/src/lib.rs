@@ -7,7 +7,7 @@
 //! keeps its rules.
 //!
 //! Reading order: [`id`], [`decimal`], [`listpack`], [`message`], [`slip`], [`node`], [`groups`],
-//! [`ledger`], [`snapshot`], [`image`]; [`index`] stands alone. [`rng`] and [`generate`] make the
+//! [`ledger`], [`snapshot`], [`image`], [`reply`]; [`index`] stands alone. [`rng`] and [`generate`] make the
 //! inputs of random tests.
 
 pub mod bytes;
@@ -22,6 +22,7 @@ pub mod listpack;
 pub mod message;
 pub mod node;
 pub mod refusal;
+pub mod reply;
 pub mod rng;
 pub mod slip;
 pub mod snapshot;

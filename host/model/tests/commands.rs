@@ -6,6 +6,8 @@ use wallathi_model::generate::Commands;
 use wallathi_model::id::Id;
 use wallathi_model::image;
 use wallathi_model::ledger::{Answer, Command, Ledger, Model, Report, Store};
+use wallathi_model::reply;
+use wallathi_model::slip;
 use wallathi_model::snapshot;
 
 fn model(store: &Store) -> &Model {
@@ -55,6 +57,17 @@ fn check_report(store: &mut Store, command: &Command, answer: &Answer) {
     }
 }
 
+/// A range reply reads back as the messages of its range, each by its place. (02, CR 4)
+fn check_reply(store: &Store, command: &Command, answer: &Answer) {
+    let (Command::RangeReply { first, last, .. }, Answer::Written(bytes)) = (command, answer) else { return };
+    let messages: Vec<_> = ledger(store).range(*first, *last).collect();
+    assert_eq!(reply::read_reply(bytes), Ok((1, messages.len() as u64)));
+    assert_eq!(reply::reply_message(bytes, messages.len() as u64, 0), Ok(None));
+    for (&(id, pairs), place) in messages.iter().zip(0..).take(3) {
+        assert_eq!(reply::reply_message(bytes, place, 6_000), Ok(Some((id, slip::write(pairs)))));
+    }
+}
+
 /// Runs one command and checks what holds after any command.
 fn checked_run(store: &mut Store, command: &Command) -> Answer {
     let before = store.clone();
@@ -64,6 +77,7 @@ fn checked_run(store: &mut Store, command: &Command) -> Answer {
     }
     check_batch(&before, command, &answer, store);
     check_report(store, command, &answer);
+    check_reply(store, command, &answer);
     answer
 }
 

@@ -14,6 +14,12 @@ pub const ABSENT: u32 = 33;
 pub const NOT_MOVED: u32 = 34;
 /// The report is over no integer: counts and sum are written, smallest and largest are not.
 pub const NO_INTEGERS: u32 = 35;
+/// The kind of a range reply.
+pub const RANGE_REPLY: u64 = 1;
+/// The kind of an integer reply.
+pub const INTEGER_REPLY: u64 = 2;
+/// The kind of an error reply.
+pub const ERROR_REPLY: u64 = 3;
 /// The size of a state.
 pub const STATE_BYTES: usize = 64_434;
 
@@ -108,6 +114,46 @@ mod c {
             sum: *mut i64,
             smallest: *mut i64,
             largest: *mut i64,
+        ) -> u32;
+        pub fn wallathi_range_reply(
+            store: *const u8,
+            store_length: usize,
+            state: *const u8,
+            first_ms: u64,
+            first_seq: u64,
+            last_ms: u64,
+            last_seq: u64,
+            output: *mut u8,
+            output_length: usize,
+            written: *mut u64,
+        ) -> u32;
+        pub fn wallathi_integer_reply(
+            number: u64,
+            output: *mut u8,
+            output_length: usize,
+            written: *mut u64,
+        ) -> u32;
+        pub fn wallathi_error_reply(
+            number: u64,
+            output: *mut u8,
+            output_length: usize,
+            written: *mut u64,
+        ) -> u32;
+        pub fn wallathi_read_reply(
+            reply: *const u8,
+            reply_length: usize,
+            kind: *mut u64,
+            number: *mut u64,
+        ) -> u32;
+        pub fn wallathi_reply_message(
+            reply: *const u8,
+            reply_length: usize,
+            place: u64,
+            output: *mut u8,
+            output_length: usize,
+            id_ms: *mut u64,
+            id_seq: *mut u64,
+            written: *mut u64,
         ) -> u32;
         pub fn wallathi_create_group(
             store: *const u8,
@@ -390,6 +436,77 @@ pub fn report(
             sum,
             smallest,
             largest,
+        )
+    }
+}
+
+/// Writes the range reply of the live messages from one ID to another.
+#[must_use]
+#[allow(clippy::too_many_arguments)]
+pub fn range_reply(
+    store: &[u8],
+    state: &State,
+    first_ms: u64,
+    first_seq: u64,
+    last_ms: u64,
+    last_seq: u64,
+    output: &mut [u8],
+    written: &mut u64,
+) -> u32 {
+    // SAFETY: see above.
+    unsafe {
+        c::wallathi_range_reply(
+            store.as_ptr(),
+            store.len(),
+            state.as_ptr(),
+            first_ms,
+            first_seq,
+            last_ms,
+            last_seq,
+            output.as_mut_ptr(),
+            output.len(),
+            written,
+        )
+    }
+}
+
+/// Writes the integer reply of a number.
+#[must_use]
+pub fn integer_reply(number: u64, output: &mut [u8], written: &mut u64) -> u32 {
+    // SAFETY: see above.
+    unsafe { c::wallathi_integer_reply(number, output.as_mut_ptr(), output.len(), written) }
+}
+
+/// Writes the error reply of a refusal's number.
+#[must_use]
+pub fn error_reply(number: u64, output: &mut [u8], written: &mut u64) -> u32 {
+    // SAFETY: see above.
+    unsafe { c::wallathi_error_reply(number, output.as_mut_ptr(), output.len(), written) }
+}
+
+/// Gives the kind of a reply ([`RANGE_REPLY`], [`INTEGER_REPLY`], [`ERROR_REPLY`]), and how many messages it has or its number.
+#[must_use]
+pub fn read_reply(reply: &[u8], values: &mut [u64; 2]) -> u32 {
+    let [kind, number] = values;
+    // SAFETY: see above.
+    unsafe { c::wallathi_read_reply(reply.as_ptr(), reply.len(), kind, number) }
+}
+
+/// Writes the message at a place of a range reply as a slip, and gives its ID and the slip's length.
+#[must_use]
+pub fn reply_message(reply: &[u8], place: u64, output: &mut [u8], values: &mut [u64; 3]) -> u32 {
+    let [id_ms, id_seq, written] = values;
+    // SAFETY: see above.
+    unsafe {
+        c::wallathi_reply_message(
+            reply.as_ptr(),
+            reply.len(),
+            place,
+            output.as_mut_ptr(),
+            output.len(),
+            id_ms,
+            id_seq,
+            written,
         )
     }
 }

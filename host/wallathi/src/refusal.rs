@@ -11,7 +11,8 @@ pub enum Refusal {
     NoSlot,
     /// 2: store and state are the image of no messages and groups: damaged, or never set up.
     Damaged,
-    /// 3: a slip is none, a name does not have its length, or a batch is to have over 256 messages.
+    /// 3: a slip or a reply is none, a name does not have its length, a batch is to have over 256 messages, or there is no reply of a
+    /// number.
     BadArgument,
     /// 4: the ID is not above the last one.
     LowId,
@@ -47,7 +48,7 @@ pub enum Refusal {
 const ALL: [(Refusal, &str); 17] = [
     (Refusal::NoSlot, "the store is shorter than one slot of 4,096 bytes"),
     (Refusal::Damaged, "store and state are not the image of any ledger: damaged, or never set up"),
-    (Refusal::BadArgument, "a slip, a name, a key or a batch's number breaks its rule"),
+    (Refusal::BadArgument, "a slip, a name, a key, a batch's number, a reply or its number breaks its rule"),
     (Refusal::LowId, "the ID is not above the last ID"),
     (Refusal::NoIdLeft, "the last ID is the greatest, and the time is not above its ms"),
     (Refusal::LongMessage, "the message is too large: a node of it alone exceeds 4,095 bytes"),

@@ -93,7 +93,7 @@ pub struct Integers {
 }
 
 /// The answer of a code: 0, or a refusal. Codes of "none" are taken apart before.
-fn answered(code: u32) -> Result<(), Refusal> {
+pub(crate) fn answered(code: u32) -> Result<(), Refusal> {
     match code {
         raw::OK => Ok(()),
         _ => Err(Refusal::from_number(code).expect("the library answers 0 or a refusal's number here")),
@@ -101,7 +101,7 @@ fn answered(code: u32) -> Result<(), Refusal> {
 }
 
 /// The answer of a code where `none` says that there is nothing.
-fn found<A>(code: u32, none: u32, answer: A) -> Result<Option<A>, Refusal> {
+pub(crate) fn found<A>(code: u32, none: u32, answer: A) -> Result<Option<A>, Refusal> {
     match code {
         _ if code == none => Ok(None),
         _ => answered(code).map(|()| Some(answer)),
@@ -121,7 +121,7 @@ fn ids_of(bytes: &[u8]) -> Vec<Id> {
 
 /// A length that the library wrote: at most the output's.
 #[allow(clippy::cast_possible_truncation)]
-fn length_of(written: u64) -> usize {
+pub(crate) fn length_of(written: u64) -> usize {
     written as usize
 }
 
@@ -247,6 +247,36 @@ impl<S: Borrow<[u8]>, T: Borrow<State>> Store<S, T> {
         let ([lacking, other, count], [sum, smallest, largest]) = (counts, values);
         let integers = found(code, raw::NO_INTEGERS, Integers { count, sum, smallest, largest })?;
         Ok(Report { lacking, other, integers })
+    }
+
+    /// The live messages of a range, both ends included, as a reply in RESP2 at the start of `out`; the answer is its length. A range whose
+    /// start is above its end has no messages. Store and state are judged once, however many messages there are.
+    ///
+    /// A reply may be many times as long as the store, which keeps names once that messages share: every message has its own here.
+    ///
+    /// ```
+    /// use wallathi::{read_reply, reply_message, Id, Owned, Reply, Slip};
+    /// let mut store = Owned::new(1)?;
+    /// store.add_by_clock(1_000, &Slip::of([("east", "-3")])?)?;
+    /// store.add_by_clock(2_000, &Slip::of([("east", "12")])?)?;
+    /// let mut out = [0; 1_000];
+    /// let length = store.range_reply(Id::new(2_000, 0)..=Id::GREATEST, &mut out)?;
+    /// let reply = &out[..length];
+    /// assert_eq!(reply, b"*1\r\n*2\r\n$6\r\n2000-0\r\n*2\r\n$4\r\neast\r\n$2\r\n12\r\n");
+    /// assert_eq!(read_reply(reply)?, Reply::Range(1));
+    /// assert_eq!(reply_message(reply, 0)?, Some((Id::new(2_000, 0), Slip::of([("east", "12")])?)));
+    /// # Ok::<(), wallathi::Refusal>(())
+    /// ```
+    ///
+    /// # Errors
+    ///
+    /// [`Refusal::Damaged`]; [`Refusal::ShortOutput`] where `out` is shorter.
+    pub fn range_reply(&self, range: RangeInclusive<Id>, out: &mut [u8]) -> Result<usize, Refusal> {
+        let (first, last) = range.into_inner();
+        let mut length = 0;
+        let (store, state) = (self.store.borrow(), self.state.borrow());
+        answered(raw::range_reply(store, state, first.ms, first.seq, last.ms, last.seq, out, &mut length))?;
+        Ok(length_of(length))
     }
 
     /// The live messages from an ID on, in rising order. A refusal ends it.

@@ -1,7 +1,8 @@
 //! The crate without an allocator: a store, slips and answers in lent bytes.
 
 use wallathi::{
-    Borrowed, Id, Integers, Pending, Refusal, SlipRef, ID_BYTES, LONGEST_SLIP, SLOT_BYTES, STATE_BYTES,
+    error_reply, integer_reply, read_reply, reply_message_into, Borrowed, Id, Integers, Pending, Refusal,
+    Reply, SlipRef, ID_BYTES, LONGEST_SLIP, SLOT_BYTES, STATE_BYTES,
 };
 
 #[test]
@@ -37,4 +38,27 @@ fn a_store_in_lent_bytes() {
     store.load(&out[..length]).unwrap();
     assert!(store.pending(b"curves", b"analyst").eq([Ok(entry)]));
     assert_eq!(bytes[2 * SLOT_BYTES..], [7; 5]);
+}
+
+#[test]
+fn replies_in_lent_bytes() {
+    let (mut bytes, mut state) = ([0; SLOT_BYTES], [0; STATE_BYTES]);
+    let mut store = Borrowed::from_parts(&mut bytes[..], &mut state);
+    let (mut lent, mut reply, mut out) = ([0; 64], [0; 100], [0; LONGEST_SLIP]);
+    store.set_up().unwrap();
+    let slip = SlipRef::write([("west", "-120")], &mut lent).unwrap();
+    let id = store.add_by_clock(5, slip).unwrap();
+    assert_eq!(store.range_reply(id..=id, &mut reply), Ok(41));
+    assert_eq!(reply[..41], *b"*1\r\n*2\r\n$3\r\n5-0\r\n*2\r\n$4\r\nwest\r\n$4\r\n-120\r\n");
+    assert_eq!(store.range_reply(id..=id, &mut out[..40]), Err(Refusal::ShortOutput));
+    assert_eq!(read_reply(&reply[..41]), Ok(Reply::Range(1)));
+    let (found, length) = reply_message_into(&reply[..41], 0, &mut out).unwrap().unwrap();
+    assert_eq!((found, SlipRef::from_bytes(&out[..length])), (id, Ok(slip)));
+    assert_eq!(reply_message_into(&reply[..41], 1, &mut []), Ok(None));
+    assert_eq!(reply_message_into(&reply[..41], 0, &mut out[..length - 1]), Err(Refusal::ShortOutput));
+    let length = integer_reply(1, &mut reply).unwrap();
+    assert_eq!(read_reply(&reply[..length]), Ok(Reply::Integer(1)));
+    assert_eq!(reply_message_into(&reply[..length], 0, &mut out), Err(Refusal::BadArgument));
+    let length = error_reply(2, &mut reply).unwrap();
+    assert_eq!(read_reply(&reply[..length]), Ok(Reply::Error(2)));
 }

@@ -2,7 +2,8 @@
 #![cfg(feature = "alloc")]
 
 use wallathi::{
-    Borrowed, Id, Integers, Owned, Pending, Refusal, Report, Slip, ID_BYTES, SLOT_BYTES, STATE_BYTES,
+    error_reply, integer_reply, read_reply, reply_message, Borrowed, Id, Integers, Owned, Pending, Refusal,
+    Reply, Report, Slip, ID_BYTES, SLOT_BYTES, STATE_BYTES,
 };
 
 fn slip(field: &str, value: &str) -> Slip {
@@ -103,6 +104,46 @@ fn reports() {
 }
 
 #[test]
+fn range_replies() {
+    let mut store = Owned::new(2).unwrap();
+    let ids: Vec<Id> = (1..=150).map(|ms| store.add_by_clock(ms, &slip("east", "7")).unwrap()).collect();
+    let mut out = vec![0; 10_000];
+    let length = store.range_reply(Id::LEAST..=Id::GREATEST, &mut out).unwrap();
+    assert_eq!(read_reply(&out[..length]), Ok(Reply::Range(150)));
+    for (&id, place) in ids.iter().zip(0..) {
+        assert_eq!(reply_message(&out[..length], place), Ok(Some((id, slip("east", "7")))));
+    }
+    assert_eq!(reply_message(&out[..length], 150), Ok(None));
+    assert_eq!(
+        store.range_reply(Id::LEAST..=Id::GREATEST, &mut out[..length - 1]),
+        Err(Refusal::ShortOutput)
+    );
+    let length = store.range_reply(ids[2]..=ids[1], &mut out).unwrap();
+    assert_eq!(out[..length], *b"*0\r\n");
+    assert_eq!(read_reply(&out[..length - 1]), Err(Refusal::BadArgument));
+}
+
+#[test]
+fn replies_of_numbers() {
+    let mut out = [0; 9];
+    for (number, text) in [(0, &b":0\r\n"[..]), (10, b":10\r\n"), (6_400, b":6400\r\n")] {
+        let length = integer_reply(number, &mut out).unwrap();
+        assert_eq!(&out[..length], text);
+        assert_eq!(read_reply(text), Ok(Reply::Integer(number)));
+        assert_eq!(reply_message(text, 0), Err(Refusal::BadArgument));
+    }
+    for (number, text) in [(1, &b"-ERR 1\r\n"[..]), (18, b"-ERR 18\r\n")] {
+        let length = error_reply(number, &mut out).unwrap();
+        assert_eq!(&out[..length], text);
+        assert_eq!(read_reply(text), Ok(Reply::Error(number)));
+    }
+    assert_eq!(integer_reply(6_401, &mut []), Err(Refusal::BadArgument));
+    assert_eq!(integer_reply(6_400, &mut [0; 6]), Err(Refusal::ShortOutput));
+    assert_eq!([0, 19].map(|number| error_reply(number, &mut [])), [Err(Refusal::BadArgument); 2]);
+    assert_eq!(error_reply(18, &mut [0; 8]), Err(Refusal::ShortOutput));
+}
+
+#[test]
 fn save_and_load_in_borrowed_bytes() {
     let mut store = Owned::new(3).unwrap();
     store.add_by_clock(7, &slip("east", "-3")).unwrap();
@@ -112,6 +153,7 @@ fn save_and_load_in_borrowed_bytes() {
     let mut other = Borrowed::from_parts(&mut bytes[..], &mut state);
     assert_eq!(other.next(Id::LEAST), Err(Refusal::Damaged));
     assert_eq!(other.report(b"east", Id::LEAST..=Id::GREATEST), Err(Refusal::Damaged));
+    assert_eq!(other.range_reply(Id::LEAST..=Id::GREATEST, &mut []), Err(Refusal::Damaged));
     assert_eq!(other.load(&file[1..]), Err(Refusal::NoSnapshot));
     other.load(&file).unwrap();
     assert_eq!(other.save().unwrap(), file);

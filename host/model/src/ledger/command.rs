@@ -18,6 +18,7 @@ pub enum Command {
     Read { id: Id, room: usize },
     Field { id: Id, name: Vec<u8>, room: usize },
     Report { name: Vec<u8>, first: Id, last: Id },
+    RangeReply { first: Id, last: Id, room: usize },
     CreateGroup { group: Name, start: Id },
     DestroyGroup { group: Name },
     GroupRead { group: Name, consumer: Name, now: u64 },
@@ -38,7 +39,7 @@ pub enum Answer {
     Id(Id),
     /// Delete, trim, acknowledge, drop consumer.
     Count(u64),
-    /// Read, field, save, batch reading: what starts the output.
+    /// Read, field, range reply, save, batch reading: what starts the output.
     Written(Vec<u8>),
     Report(Report),
     /// Claim.

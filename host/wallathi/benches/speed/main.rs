@@ -3,11 +3,15 @@
 //! `cargo bench` prints times, `cargo bench -- instructions` counts of executed instructions (it runs itself under valgrind), both as
 //! tables of docs/PERFORMANCE.md. Each call is one on a fresh copy of store and state, made before the clock starts; single reads beside a
 //! batch go one after another on one copy. What a command costs beyond the judgement is what it costs more than a command that is refused
-//! once store and state are judged.
+//! once store and state are judged. Replies have a table of their own.
 
 #[path = "../../tests/store/lent.rs"]
 #[allow(dead_code)]
 mod lent;
+#[path = "../../tests/store/readers.rs"]
+#[allow(dead_code)]
+mod readers;
+mod replies;
 #[path = "../../tests/store/sides.rs"]
 mod sides;
 mod stores;
@@ -30,15 +34,15 @@ const FEW_SAMPLES: usize = 31;
 /// Calls whose instructions are counted.
 const CALLS: usize = 4;
 const SIDES: [(&str, Call); 2] = [("proved", sides::proved), ("plain", sides::plain)];
-/// The room of an output: a snapshot's.
-const ROOM: usize = 321_604;
+/// The room of an output: a reply's, which is longer than a snapshot.
+const ROOM: usize = replies::ROOM;
 
 /// What is measured: a name, and commands one after another.
 type Row = (&'static str, Vec<Command>);
 
 /// What is measured of a store. The first is the judgement alone.
 fn rows(fill: &Fill) -> Vec<Row> {
-    let judgement = ("judgement", vec![Command::CreateGroup { group: vec![], start: Id::LEAST }]);
+    let judgement = ("judgement", vec![judgement()]);
     let others = if fill.is_for_batches() {
         batches(fill)
     } else if fill.shape != Shape::Readings {
@@ -47,6 +51,11 @@ fn rows(fill: &Fill) -> Vec<Row> {
         commands(fill).into_iter().map(|(name, command)| (name, vec![command])).collect()
     };
     [vec![judgement], others].concat()
+}
+
+/// A command that is refused once store and state are judged.
+fn judgement() -> Command {
+    Command::CreateGroup { group: vec![], start: Id::LEAST }
 }
 
 /// A report over all messages.
@@ -87,6 +96,7 @@ fn commands(fill: &Fill) -> Vec<(&'static str, Command)> {
         ("read", Command::Read { id: middle, room: ROOM }),
         ("field", Command::Field { id: middle, name: b"note".to_vec(), room: ROOM }),
         ("report", report_of(fill)),
+        ("range reply", replies::whole()),
         ("group read", Command::GroupRead { group: open.clone(), consumer: consumer.clone(), now }),
         (
             "batch of 256",
@@ -209,6 +219,7 @@ fn time() {
         vec![us, plain_us, ratio(proved, plain), speed]
     };
     report("store_times", &["proved, µs", "plain Rust, µs", "ratio", "MB judged a second"], figures, told);
+    replies::time();
 }
 
 fn instructions() {
@@ -230,10 +241,14 @@ fn instructions() {
     };
     let head = ["proved", "plain Rust", "ratio", "beyond the judgement: proved", "plain Rust"];
     report("store_instructions", &head, figures, told);
+    replies::instructions();
 }
 
 /// So many calls of a side, to be counted; the copies are made in any case.
 fn run_one(words: &[&str]) {
+    if let ["reply", words @ ..] = words {
+        return replies::run_one(words);
+    }
     let numbers: Vec<usize> = words.iter().map(|word| word.parse().expect("a number")).collect();
     let [store, number, side, calls] = numbers[..] else { panic!("four numbers") };
     let mut bench = Bench::new(&FILLS[store]);
@@ -248,6 +263,7 @@ fn run_one(words: &[&str]) {
 
 /// The sides answer as the model, and leave what it says.
 fn compare() {
+    replies::compare();
     for fill in &FILLS {
         for (name, commands) in rows(fill) {
             let mut model = Store { length: LENGTH, model: Some(fill.model()) };

@@ -31,6 +31,7 @@ impl Told {
         let room = match command {
             Command::Read { room, .. }
             | Command::Field { room, .. }
+            | Command::RangeReply { room, .. }
             | Command::GroupReadMany { room, .. }
             | Command::Save { room } => *room,
             _ => 0,
@@ -228,7 +229,7 @@ impl Beside {
         answer
     }
 
-    /// The bytes are the model's, without what was kept of earlier ones.
+    /// The bytes are the model's, without what was kept of earlier ones; replies on them read back.
     pub fn check(&mut self) {
         let model = self.model.model.as_ref().expect("commands keep an image");
         assert!(model.keeps_rules());
@@ -236,6 +237,7 @@ impl Beside {
         for side in &mut self.sides {
             side.compare(&Command::SetUp, model, &self.expected);
         }
+        self.check_replies();
     }
 }
 

@@ -12,8 +12,11 @@ mod lent;
 mod limits;
 mod lists;
 mod nodes;
+mod readers;
+mod replies;
 mod reports;
 mod sides;
+mod strict;
 mod strings;
 
 use std::env;

@@ -53,6 +53,10 @@ pub fn proved(
             put_report(values, counts, signed);
             code
         }
+        RangeReply { first, last, .. } => {
+            let (first, last) = ((first.ms, first.seq), (last.ms, last.seq));
+            raw::range_reply(store, state, first.0, first.1, last.0, last.1, out, &mut values[0])
+        }
         CreateGroup { group, start } => raw::create_group(store, state, group, start.ms, start.seq),
         DestroyGroup { group } => raw::destroy_group(store, state, group),
         GroupRead { group, consumer, now } => {
@@ -100,6 +104,9 @@ pub fn plain(
             let signed = [told.sum, told.smallest, told.largest];
             put_report(values, [told.lacking, told.other, told.integers], signed);
             return code;
+        }
+        RangeReply { first, last, .. } => {
+            return plain::range_reply(store, state, *first, *last, out, &mut values[0])
         }
         CreateGroup { group, start } => return plain::create_group(store, state, group, *start),
         DestroyGroup { group } => return plain::destroy_group(store, state, group),

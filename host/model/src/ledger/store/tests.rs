@@ -216,6 +216,31 @@ fn reports() {
     assert_eq!(store.run(&report(b"a", Id::LEAST, Id::GREATEST)), integers(0, 2, 4, 1, 3));
 }
 
+fn range_reply(first: Id, last: Id, room: usize) -> Command {
+    Command::RangeReply { first, last, room }
+}
+
+#[test]
+fn range_replies() {
+    let mut store = store();
+    let mut over = |first, last, room| match store.run(&range_reply(first, last, room)) {
+        Answer::Written(bytes) => String::from_utf8(bytes).unwrap(),
+        answer => panic!("{answer:?}"),
+    };
+    let three = "*2\r\n$3\r\n3-0\r\n*2\r\n$1\r\na\r\n$1\r\n1\r\n";
+    let five = "*2\r\n$3\r\n5-0\r\n*4\r\n$1\r\nb\r\n$0\r\n\r\n$1\r\na\r\n$1\r\n2\r\n";
+    assert_eq!(over(Id::new(3, 0), Id::new(5, 0), 999), format!("*2\r\n{three}{five}"));
+    assert_eq!(over(Id::new(3, 1), Id::new(8, 0), 999), format!("*1\r\n{five}"));
+    assert_eq!(over(Id::LEAST, Id::GREATEST, 999)[..4], *"*3\r\n");
+    assert_eq!(over(Id::new(5, 1), Id::new(5, 0), 4), "*0\r\n");
+    refused(&store, range_reply(Id::new(5, 1), Id::new(5, 0), 3), 8);
+    refused(&store, range_reply(Id::new(5, 0), Id::new(5, 0), 3 + five.len()), 8);
+    refused(&Store::damaged(8192), range_reply(Id::LEAST, Id::GREATEST, 0), 2);
+    store.run(&Command::Delete { id: Id::new(5, 0) });
+    let rest = store.run(&range_reply(Id::LEAST, Id::new(5, 0), 4 + three.len()));
+    assert_eq!(rest, Answer::Written(format!("*1\r\n{three}").into_bytes()));
+}
+
 #[test]
 fn create_and_destroy_group() {
     let mut store = store();
