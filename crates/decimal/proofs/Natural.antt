@@ -36,6 +36,34 @@ module _ (n : ℕ) where
   pub length-more : 10 ≤ n → n < 2 ^ 64 → length (naturalText n) ≡ length (naturalText (n / 10)) + 1
   length-more h k = ap length (natural-more h k) ∙ length-append (naturalText (n / 10)) ((48 + n % 10) ∷ [])
 
+-- four digits at a time
+pub length-four : (n : ℕ) → 10000 ≤ n → n < 2 ^ 64 → length (naturalText n) ≡ 4 + length (naturalText (n / 10000))
+length-four n h k =
+    let e : n / 10 / 10 / 10 / 10 ≡ n / 10000 = omega arith in
+    omega (
+      arith,
+      length-more n (omega arith) k,
+      length-more (n / 10) (omega arith) (omega arith),
+      length-more (n / 10 / 10) (omega arith) (omega arith),
+      length-more (n / 10 / 10 / 10) (omega arith) (omega arith),
+      ap (λ (i : ℕ). length (naturalText i)) e,
+    )
+
+-- two digits, alone and after others
+pub natural-two : (n : ℕ) → 10 ≤ n → n < 100 → naturalText n ≡ (48 + n / 10) ∷ ((48 + n % 10) ∷ [])
+natural-two n h k = natural-more n h (omega arith) ∙ ap (λ (l : List ℕ). l ++ ((48 + n % 10) ∷ [])) (natural-one (n / 10) (omega arith))
+
+pub natural-pair : (n : ℕ) → 100 ≤ n → n < 2 ^ 64 → naturalText n ≡ naturalText (n / 100) ++ ((48 + n % 100 / 10) ∷ ((48 + n % 100 % 10) ∷ []))
+natural-pair n h k =
+    let a : n / 10 / 10 ≡ n / 100 = omega arith in
+    let b : 48 + n / 10 % 10 ≡ 48 + n % 100 / 10 = omega arith in
+    let c : 48 + n % 10 ≡ 48 + n % 100 % 10 = omega arith in
+    natural-more n (omega arith) k
+    ∙ ap (λ (l : List ℕ). l ++ ((48 + n % 10) ∷ [])) (natural-more (n / 10) (omega arith) (omega arith))
+    ∙ append-assoc (naturalText (n / 10 / 10)) ((48 + n / 10 % 10) ∷ []) ((48 + n % 10) ∷ [])
+    ∙ ap (λ (i : ℕ). naturalText i ++ ((48 + n / 10 % 10) ∷ ((48 + n % 10) ∷ []))) a
+    ∙ ap₂ (λ (x y : ℕ). naturalText (n / 100) ++ (x ∷ (y ∷ []))) b c
+
 length-digits : (m n : ℕ) → length (digitsOf m n) ≤ m
 unfolding digitsOf
 length-digits zero n = omega arith

@@ -8,6 +8,7 @@ pub use recognition::recognise;
 pub use text::natural_size;
 pub use text::text_size;
 pub use text::write_natural;
+pub use text::write_sized;
 pub use text::write_text;
 ghost use mathlib.Core.Path.{_≡_};
 ghost use Prim.Native.Nat.{_-_, _^_, _≤_};

@@ -7,3 +7,4 @@ mod strings;
 
 pub use entry::entry_size;
 pub use entry::write_entry;
+pub use strings::strings_size;

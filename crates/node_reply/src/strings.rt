@@ -2,12 +2,13 @@
 
 ghost use mathlib.Core.Path.{_≡_};
 ghost use mathlib.Core.List.{List};
-ghost use Prim.Native.Nat.{ℕ, _+_, _≤_, _<_};
+ghost use Prim.Native.Nat.{ℕ, _+_, _*_, _≤_, _<_};
 ghost use lib.ListN.{length};
 ghost use Rattle.octets.specs.Place.{area, put};
 ghost use Rattle.decimal.specs.Text.{textOf};
-ghost use Rattle.listpack.specs.Known.{ElementAt, stringAt, afterAt};
+ghost use Rattle.listpack.specs.Known.{ElementAt, ElementsAt, stringAt, afterAt};
 ghost use Rattle.resp.specs.Reply.{bulk};
+ghost use Rattle.node_reply.specs.Sizes.{stringsSize};
 use listpack::Element;
 use node_read::Passed;
 use resp::BULK;
@@ -18,6 +19,23 @@ pub fn bulk_size(n: usize) -> usize
     ensures { λ r. ⌜ ((x : List ℕ) → n ≡ length x → r ≡ length (bulk x)) × (r ≤ n + 25) ⌝ }
 {
     resp::head_size(n as u64) + n + 2
+}
+
+// How many bytes the strings of n elements take, from a place on.
+pub fn strings_size(s: &[u8], at: usize, n: usize) -> usize
+    requires { ⌜ (ElementsAt n (now s) at) × (n < 256) ⌝ }
+    ensures { λ r. ⌜ (r ≡ stringsSize n (now (s .entry)) at) × (r ≤ 4120 * n) ⌝ }
+{
+    let mut size = 0;
+    let mut to = at;
+    let mut left = n;
+    while 0 < left {
+        let x = node_read::measure(s, to);
+        size += bulk_size(x.len);
+        to = x.next;
+        left -= 1;
+    }
+    size
 }
 
 // A text, from its place on; the answer is the place after it.

@@ -5,7 +5,7 @@ use Prim.Native.Nat.{ℕ, zero, suc, _+_, _-_, _≤_, _<_}
 use native.Mathlib.Nat.{add-assoc, add-zero, zero-add, suc-add}
 use native.Mathlib.Numerals.{add-one}
 use native.Mathlib.Omega.{arith}
-use lib.ListN.{length, take, drop, set, length-append, length-take, length-drop, take-append-drop}
+use lib.ListN.{length, take, drop, set, length-set, length-append, length-take, length-drop, take-append-drop}
 use lib.Seq.{take-at, drop-at, take-append-le, drop-append-le, drop-append-add, take-append-add, take-take, drop-drop, set-split, length-take-le, take-nil, drop-length}
 use Rattle.octets.specs.Bytes.{zeros}
 use Rattle.octets.specs.Place.{put}
@@ -111,6 +111,9 @@ set-put s i b h = set-split s i b h ∙ rw add-one
 pub put-first : (s : List ℕ) (at b : ℕ) (bs : List ℕ) → at < length s → put s at (b ∷ bs) ≡ put (set s at b) (at + 1) bs
 put-first s at b bs h =
     sym (put-append s at (b ∷ []) bs (omega arith)) ∙ ap (λ (l : List ℕ). put l (at + 1) bs) (sym (set-put s at b h))
+
+pub put-two : (s : List ℕ) (at a b : ℕ) → at + 2 ≤ length s → set (set s at a) (at + 1) b ≡ put s at (a ∷ (b ∷ []))
+put-two s at a b h = set-put (set s at a) (at + 1) b (omega (arith, length-set s at a)) ∙ sym (put-first s at a (b ∷ []) (omega arith))
 
 pub put-last : (s : List ℕ) (at : ℕ) (bs : List ℕ) (b : ℕ) → at + length bs < length s
     → put s at (bs ++ (b ∷ [])) ≡ put (set s (at + length bs) b) at bs

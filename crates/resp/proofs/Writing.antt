@@ -7,14 +7,11 @@ use native.Mathlib.Omega.{arith}
 use borrow.Author.Tests.{le-leb, lt-leb}
 use lib.ListN.{length, set, length-append, length-set}
 use Rattle.octets.specs.Place.{put}
-use Rattle.octets.proofs.Laws.{put-first, put-append, set-put, length-put, both-of}
+use Rattle.octets.proofs.Laws.{put-first, put-append, length-put, both-of}
 use Rattle.decimal.specs.Text.{naturalText}
 use Rattle.resp.specs.Reply.{crlf, head, integerBytes, errorBytes, isRefusalNumber}
 use Rattle.resp.specs.Answer.{repliedBy, outputBy}
 use Rattle.resp.specs.declared.Replied.the-variants.{Written, Refused}
-
-pub put-two : (d : List ℕ) (at a b : ℕ) → at + 2 ≤ length d → set (set d at a) (at + 1) b ≡ put d at (a ∷ (b ∷ []))
-put-two d at a b h = set-put (set d at a) (at + 1) b (omega (arith, length-set d at a)) ∙ sym (put-first d at a (b ∷ []) (omega arith))
 
 pub length-head : (b n : ℕ) → length (head b n) ≡ 3 + length (naturalText n)
 unfolding head

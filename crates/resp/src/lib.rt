@@ -46,9 +46,9 @@ pub fn write_head(d: &mut [u8], at: usize, b: u8, n: u64) -> usize
     ensures { λ r. ⌜ (r ≡ at + length (head b n)) × (now (d .exit) ≡ put (now (d .entry)) at (head b n)) ⌝ }
 {
     d[at] = b;
-    let end = at + 1 + decimal::natural_size(n);
-    decimal::write_natural(d, at + 1, n);
-    write_end(d, end)
+    let size = decimal::natural_size(n);
+    decimal::write_sized(d, at + 1, size, n);
+    write_end(d, at + 1 + size)
 }
 
 // What delete, trim and acknowledge answer: 3, above 6,400; 8, the output is shorter.

@@ -9,27 +9,27 @@ use lib.Dec.{eqb}
 use lib.ListN.{length, take, drop, getD, length-append}
 use borrow.Author.Tests.{le-leb, lt-leb}
 use Rattle.octets.specs.Maybe.{isNone}
-use Rattle.octets.specs.Place.{put}
-use Rattle.octets.proofs.Laws.{pick-eq, needed, answered, some-is, put-append}
+use Rattle.octets.specs.Place.{area, put}
+use Rattle.octets.proofs.Laws.{pick-eq, needed, answered, some-is, part-is, put-append}
 use Rattle.id.specs.declared.Id.{Id}
 use Rattle.id.specs.Id.{least, below}
-use Rattle.slip.specs.Pair.{Pair, pair}
+use Rattle.slip.specs.Pair.{Pair}
 use Rattle.slip.specs.Slip.{slipString, slipPairs, slip}
 use Rattle.slip.proofs.Laws.{length-string, length-slip}
 use Rattle.node.specs.Message.{Message, message}
 use Rattle.node.specs.Step.{fitsAlone}
 use Rattle.node.proofs.Laws.{never}
-use Rattle.resp.specs.Reply.{Reply, range, integer, error, isCount, isRefusalNumber}
-use Rattle.resp.specs.Parse.{Got, gives, Opening, openingOf, cutByte, cutHead, cutBulk, cutOpening, cutPairs, cutEntry, cutEntries, parseRange, parseInteger, parseError, parseReply}
+use Rattle.resp.specs.Reply.{Reply, range, integer, error, isCount, isRefusalNumber, messageAt}
+use Rattle.resp.specs.Parse.{Got, gives, Opening, openingOf, cutByte, cutHead, cutOpening, cutPairs, cutEntry, cutEntries, parseRange, parseInteger, parseError, parseReply}
 use Rattle.resp.proofs.Laws.{pairs-is, entries-is}
-use Rattle.resp_read.specs.Answer.{headAt, bulkAt, openingAt, pairsAt, entriesEnd, readBy, messageAt, pairsBy, pickedBy, pickedOutput}
+use Rattle.resp_read.specs.Answer.{headAt, bulkAt, openingAt, pairsAt, entriesEnd, readBy, pairsBy, pickedBy, pickedOutput}
 use Rattle.resp_read.specs.declared.part.Found.{Found}
 use Rattle.resp_read.specs.declared.entry.OpeningFound.{OpeningFound}
 use Rattle.resp_read.specs.declared.entry.Sized.{Sized}
 use Rattle.resp_read.specs.declared.reading.ReplyRead.the-variants.{Range, Integer, Error, Bad}
 use Rattle.resp_read.specs.declared.message.Picked.the-variants as picked
-use Rattle.resp_read.proofs.Parts.{no-head, head-at, IsBulk, no-bulk, bulk-at, bulk-part}
-use Rattle.resp_read.proofs.Sizes.{stringOf, string-length, no-opening, opening-at, no-pairs, pairs-at}
+use Rattle.resp_read.proofs.Parts.{no-head, head-at, IsBulk}
+use Rattle.resp_read.proofs.Sizes.{string-length, pairBefore, no-field, no-value, pair-first, no-opening, opening-at, no-pairs, pairs-at}
 use Rattle.resp_read.proofs.Replies.{no-entries, entries-at}
 
 -- the entries before a place are parsed too, and the next one is the message there
@@ -201,59 +201,62 @@ unfolding slipLeft cutPairs slipPairs
 slip-none s n at z = rw z
 
 -- the first pair, and the others
-pub record Turn (s : List ℕ) (n at : ℕ) (f v : Found) : Type 0 where
-  pub field : IsBulk s at f
-  pub value : IsBulk s (f .next) v
-  pub left-is : slipLeft s n at ≡ slipString (stringOf s f) ++ (slipString (stringOf s v) ++ slipLeft s (n - 1) (v .next))
-  pub more : isNone (cutPairs (n - 1) (drop (v .next) s)) ≡ false
+pub record Turn (s : List ℕ) (n at i from j start : ℕ) : Type 0 where
+  pub field : IsBulk s at i from
+  pub value : IsBulk s (from + i + 2) j start
+  pub left-is : slipLeft s n at ≡ slipString (area from i s) ++ (slipString (area start j s) ++ slipLeft s (n - 1) (start + j + 2))
+  pub more : isNone (cutPairs (n - 1) (drop (start + j + 2) s)) ≡ false
 
 there-some : {A : Type 0} {P : Type 0} (o : Option A) → isNone o ≡ false → ((a : A) → o ≡ some a → P) → P
 there-some none e k = absurd (let z : _≡_ {A = ℕ} 0 1 = cc in omega arith)
 there-some (some a) e k = k a refl
 
-pub turn : (s : List ℕ) (n at : ℕ) → 0 < n → isNone (cutPairs n (drop at s)) ≡ false → (f : Found) → f ≡ bulkAt s at → (v : Found) → v ≡ bulkAt s (f .next) → Turn s n at f v
-unfolding slipLeft cutPairs slipPairs
-turn s n at more h f p v q =
-    there-some (cutPairs n (drop at s)) h λ c t.
-    let l : n ≡ suc (n - 1) = omega arith in
-    let w : cutPairs (suc (n - 1)) (drop at s) ≡ some c = ap (λ (k : ℕ). cutPairs k (drop at s)) (sym l) ∙ t in
-    answered (cutBulk (drop at s)) _ w λ x i e. answered (cutBulk (x .rest)) _ e λ y j e. answered (cutPairs (n - 1) (y .rest)) _ e λ ps k e.
-    let a = bulk-at s at f p (λ z. never i (no-bulk s at f p z)) in
-    let xs = same-some i (a .is) in
-    let j' = rw xs at j in
-    let b = bulk-at s (f .next) v q (λ z. never j' (no-bulk s (f .next) v q z)) in
-    let ys = same-some j' (b .is) in
-    let k' = rw ys at k in
-    let cs : c .got ≡ pair (stringOf s f) (stringOf s v) ∷ pairsBy (cutPairs (n - 1) (drop (v .next) s)) =
-    ap (λ (g : Got (List Pair)). g .got) (sym (some-is e))
-    ∙ ap₂ (λ (g u : Got (List ℕ)). pair (g .got) (u .got) ∷ ps .got) xs ys
-    ∙ ap (λ (o : Option (Got (List Pair))). pair (stringOf s f) (stringOf s v) ∷ pairsBy o) (sym k') in
-    record { field = a; value = b; left-is = ap (λ (o : Option (Got (List Pair))). slipPairs (pairsBy o)) t ∙ ap slipPairs cs; more = rw k' }
+module _ (s : List ℕ) (n at : ℕ) (more : 0 < n) (h : isNone (cutPairs n (drop at s)) ≡ false) where
+  not-none : cutPairs n (drop at s) ≡ none → ⊥
+  not-none e = there-some (cutPairs n (drop at s)) h λ c t. never t e
 
-module _ {s : List ℕ} {n at : ℕ} {f v : Found} (t : Turn s n at f v) where
-  pub turn-length : length (slipLeft s n at) ≡ 4 + f .value + v .value + length (slipLeft s (n - 1) (v .next))
+  pub field-there : (f : ℕ) → f ≡ bulkAt s at → f ≡ 0 → ⊥
+  field-there f e z = not-none (no-field s n at more f e z)
+
+  module _ {i from : ℕ} (f : IsBulk s at i from) where
+    pub value-there : (v : ℕ) → v ≡ bulkAt s (from + i + 2) → v ≡ 0 → ⊥
+    value-there v e z = not-none (no-value s n at more f v e z)
+
+    module _ {j start : ℕ} (v : IsBulk s (from + i + 2) j start) where
+      others : (o : Option (Got (List Pair))) → cutPairs n (drop at s) ≡ pairBefore (area from i s) (area start j s) o
+          → (isNone o ≡ false) × (slipLeft s n at ≡ slipString (area from i s) ++ (slipString (area start j s) ++ slipPairs (pairsBy o)))
+      unfolding slipLeft slipPairs
+      others none e = absurd (not-none e)
+      others (some c) e = (refl, ap (λ (o : Option (Got (List Pair))). slipPairs (pairsBy o)) e)
+
+      pub turn : Turn s n at i from j start
+      unfolding slipLeft
+      turn = let t = others (cutPairs (n - 1) (drop (start + j + 2) s)) (pair-first s n at more f v) in record { field = f; value = v; more = t .0; left-is = t .1 }
+
+module _ {s : List ℕ} {n at i from j start : ℕ} (t : Turn s n at i from j start) where
+  pub turn-length : length (slipLeft s n at) ≡ 4 + i + j + length (slipLeft s (n - 1) (start + j + 2))
   turn-length =
       omega (
         arith,
         ap length (t .left-is),
-        length-append (slipString (stringOf s f)) (slipString (stringOf s v) ++ slipLeft s (n - 1) (v .next)),
-        length-append (slipString (stringOf s v)) (slipLeft s (n - 1) (v .next)),
-        length-string (stringOf s f),
-        length-string (stringOf s v),
+        length-append (slipString (area from i s)) (slipString (area start j s) ++ slipLeft s (n - 1) (start + j + 2)),
+        length-append (slipString (area start j s)) (slipLeft s (n - 1) (start + j + 2)),
+        length-string (area from i s),
+        length-string (area start j s),
         string-length (t .field),
         string-length (t .value),
       )
 
 -- a bulk string as it is lent to be written, and what is left then
-module _ {s : List ℕ} {at : ℕ} {f : Found} (k : IsBulk s at f) where
-  pub lent-length : length (take (f .next - 2 - (f .next - 2 - f .value)) (drop (f .next - 2 - f .value) s)) ≡ f .value
-  lent-length = ap length (bulk-part k) ∙ string-length k
+module _ {s : List ℕ} {at len from : ℕ} (k : IsBulk s at len from) where
+  pub lent-length : length (take (from + len - from) (drop from s)) ≡ len
+  lent-length = ap length (part-is from len s) ∙ string-length k
 
-  pub lent-put : (d e ys : List ℕ) (to j : ℕ) → j ≡ to + 2 + length (take (f .next - 2 - (f .next - 2 - f .value)) (drop (f .next - 2 - f .value) s))
-      → e ≡ put d to (slipString (take (f .next - 2 - (f .next - 2 - f .value)) (drop (f .next - 2 - f .value) s))) → to ≤ length d → put e j ys ≡ put d to (slipString (stringOf s f) ++ ys)
+  pub lent-put : (d e ys : List ℕ) (to j : ℕ) → j ≡ to + 2 + length (take (from + len - from) (drop from s))
+      → e ≡ put d to (slipString (take (from + len - from) (drop from s))) → to ≤ length d → put e j ys ≡ put d to (slipString (area from len s) ++ ys)
   lent-put d e ys to j q p h =
-      let l : j ≡ to + length (slipString (stringOf s f)) = omega (arith, q, lent-length, length-string (stringOf s f), string-length k) in
-      ap₂ (λ (x : List ℕ) (i : ℕ). put x i ys) (p ∙ ap (λ (x : List ℕ). put d to (slipString x)) (bulk-part k)) l ∙ put-append d to (slipString (stringOf s f)) ys h
+      let l : j ≡ to + length (slipString (area from len s)) = omega (arith, q, lent-length, length-string (area from len s), string-length k) in
+      ap₂ (λ (x : List ℕ) (i : ℕ). put x i ys) (p ∙ ap (λ (x : List ℕ). put d to (slipString x)) (part-is from len s)) l ∙ put-append d to (slipString (area from len s)) ys h
 
 -- the whole slip: the number of pairs, and what is left
 pub slip-whole : (s : List ℕ) (n at : ℕ) → isNone (cutPairs n (drop at s)) ≡ false → slip (pairsBy (cutPairs n (drop at s))) ≡ n ∷ slipLeft s n at

@@ -1,22 +1,23 @@
 -- Numbers, heads and bulk strings at a place: what the functions meet there. Assumes nothing.
 use mathlib.Core.Path.{_≡_, refl, sym, ap, ap₂, _∙_}
 use mathlib.Core.Bool.{false}
-use mathlib.Core.List.{List, _∷_, _++_, append-assoc}
+use mathlib.Core.List.{List, [], _∷_, _++_, append-assoc}
 use mathlib.Core.Option.{Option, some, none}
-use Prim.Native.Nat.{ℕ, _+_, _-_, _*_, _^_, _≤_, _<_}
+use Prim.Native.Nat.{ℕ, zero, suc, _+_, _-_, _*_, _^_, _≤_, _<_}
 use native.Mathlib.Omega.{arith}
+use lib.Dec.{ltb}
 use lib.ListN.{length, take, drop, getD, length-append, length-drop, drop-of-length-le, take-append-drop}
 use lib.Seq.{drop-drop, length-take-le}
 use borrow.Author.Tests.{eq-eqb, ne-eqb, le-leb, lt-leb, lt-ltb, le-ltb}
 use Rattle.octets.specs.Place.{area}
-use Rattle.octets.proofs.Laws.{cut, area-middle, part-area}
+use Rattle.octets.proofs.Laws.{cut, area-middle, pick-by, pick-le, needed, some-is}
 use Rattle.decimal.specs.Text.{naturalText}
 use Rattle.decimal.specs.Integer.{isDigit}
 use Rattle.decimal.proofs.Laws.{length-natural}
 use Rattle.resp.specs.Reply.{crlf, head, bulk}
 use Rattle.resp.specs.Parse.{Got, gives, cutByte, cutEnd, cutDigits, cutNumber, cutHead, cutBulk}
 use Rattle.resp.proofs.Laws.{number-is, end-is, head-is, bulk-is}
-use Rattle.resp_read.specs.Answer.{placeBy, found, bulkBy, lineEnd, digitsAt, numberAt, headAt, bulkAt}
+use Rattle.resp_read.specs.Answer.{placeBy, found, numberBy, shortBy, bulkBy, lineEnd, digitsAt, numberAt, headAt, bulkAt}
 use Rattle.resp_read.specs.declared.part.Found.{Found}
 use Rattle.resp_read.proofs.Places.{Left, lengths, left, NumberAt, number-there, number-missing}
 
@@ -186,87 +187,141 @@ module _ (s : List ℕ) (at b : ℕ) (f : Found) (e : f ≡ headAt s at b) where
   unfolding headAt
   head-at = number-there s at _ (head-left s at b) f e
 
+-- a length: at most 1,000
+pub short-one : (f : Found) → f .value ≤ 1000 → shortBy f ≡ f
+short-one f h = rw (le-leb (f .value) 1000 h)
+
+short-other : (f : Found) → 1000 < f .value → shortBy f ≡ found 0 0
+short-other f h = rw (lt-leb (f .value) 1000 h)
+
+-- what it says
+module _ (f g : Found) (e : f ≡ shortBy g) where
+  pub is-short : (f .next ≡ 0 → ⊥) → (f ≡ g) × (f .value ≤ 1000)
+  is-short h =
+      pick-le (λ (x : Found). f ≡ x → (f ≡ g) × (f .value ≤ 1000)) (g .value) 1000 _ _
+      (λ k q. (q, omega (arith, ap (λ (x : Found). x .value) q)))
+      (λ k q. absurd (h (ap (λ (x : Found). x .next) q))) e
+
+  pub not-short : f .next ≡ 0 → (g .next ≡ 0 → ⊥) → 1000 < g .value
+  not-short z h =
+      pick-le (λ (x : Found). f ≡ x → 1000 < g .value) (g .value) 1000 _ _
+      (λ k q. absurd (h (sym (ap (λ (x : Found). x .next) q) ∙ z)))
+      (λ k q. k) e
+
+-- digits only make a number greater
+digits-grow : (n : ℕ) (s : List ℕ) (c : Got ℕ) → cutDigits n s ≡ some c → n ≤ c .got
+unfolding cutDigits
+digits-grow n [] c e = omega (arith, ap (λ (x : Got ℕ). x .got) (some-is e))
+digits-grow n (b ∷ s) c e =
+    let P : Option (Got ℕ) → Type 0 = λ o. o ≡ some c → n ≤ c .got in
+    pick-by P (isDigit b) _ _
+    (λ d e. needed (ltb (10 * n + (b - 48)) (2 ^ 64)) _ e λ l e. omega (arith, digits-grow (10 * n + (b - 48)) s c e))
+    (λ d e. omega (arith, ap (λ (x : Got ℕ). x .got) (some-is e))) e
+
+module _ (s : List ℕ) (n i : ℕ) where
+  pub digits-long : 1000 < n → shortBy (digitsAt s n i) ≡ found 0 0
+  unfolding digitsAt
+  digits-long h = go (cutDigits n (drop i s)) refl
+    where
+      go : (o : Option (Got ℕ)) → cutDigits n (drop i s) ≡ o → shortBy (numberBy s o) ≡ found 0 0
+      go none e = refl
+      go (some c) e = short-other (numberBy s (some c)) (omega (arith, digits-grow n (drop i s) c e))
+
+-- the head with a length: f is the length
+module _ (s : List ℕ) (at : ℕ) (h : at < length s) (k : getD s at 0 ≡ 36) (f : Found) (p : f ≡ shortBy (numberAt s (at + 1))) where
+  long-end : (n : ℕ) → lineEnd s (numberAt s (at + 1) .next) ≡ n → (numberAt s (at + 1) .next ≡ 0 → ⊥) → 1000 < numberAt s (at + 1) .value → shortBy (headAt s at 36) ≡ found 0 0
+  long-end zero e l m = ap shortBy (head-no-end s at 36 h k _ refl l 0 (sym e) refl)
+  long-end (suc n) e l m = ap shortBy (head-there s at 36 h k _ refl l (suc n) (sym e) (λ z. omega arith)) ∙ short-other _ m
+
+  length-go : (n : ℕ) → numberAt s (at + 1) .next ≡ n → f .next ≡ 0 → shortBy (headAt s at 36) ≡ found 0 0
+  length-go zero e z = ap shortBy (head-no-number s at 36 h k _ refl e)
+  length-go (suc n) e z = let l : numberAt s (at + 1) .next ≡ 0 → ⊥ = λ y. omega arith in long-end _ refl l (not-short f _ p z l)
+
+  pub length-none : f .next ≡ 0 → shortBy (headAt s at 36) ≡ found 0 0
+  length-none = length-go _ refl
+
+  module _ (l : f .next ≡ 0 → ⊥) (n : ℕ) (q : n ≡ lineEnd s (f .next)) where
+    pub length-no-end : n ≡ 0 → shortBy (headAt s at 36) ≡ found 0 0
+    length-no-end z = ap shortBy (head-no-end s at 36 h k f (is-short f _ p l .0) l n q z)
+
+    pub length-there : (n ≡ 0 → ⊥) → shortBy (headAt s at 36) ≡ found (f .value) n
+    length-there z = let t = is-short f _ p l in ap shortBy (head-there s at 36 h k f (t .0) l n q z) ∙ short-one (found (f .value) n) (t .1)
+
 -- a bulk string, after its head
-module _ (s : List ℕ) (at : ℕ) (f : Found) (e : f ≡ headAt s at 36) where
-  pub bulk-none : f .next ≡ 0 → bulkAt s at ≡ found 0 0
+module _ (s : List ℕ) (at : ℕ) (f : Found) (e : f ≡ shortBy (headAt s at 36)) where
+  none-by : (o : Option (Got ℕ)) → cutHead 36 (drop at s) ≡ o → f ≡ shortBy (numberBy s o) → f .next ≡ 0 → bulkAt s at ≡ 0
   unfolding bulkAt cutBulk
-  bulk-none z = rw (no-head s at 36 f e z)
+  none-by none p q z = rw p
+  none-by (some c) p q z =
+      let l = not-short f (numberBy s (some c)) q z (λ y. omega (arith, head-left s at 36 c p .some-place)) in
+      rw p (simp (lt-leb (c .got) 1000 l))
+
+  pub bulk-none : f .next ≡ 0 → bulkAt s at ≡ 0
+  unfolding headAt
+  bulk-none = none-by (cutHead 36 (drop at s)) refl e
 
   module _ (h : f .next ≡ 0 → ⊥) where
-    pub bulk-long : 1000 < f .value → bulkAt s at ≡ found 0 0
-    unfolding bulkAt cutBulk
-    bulk-long k = rw (head-at s at 36 f e h .is) (simp (lt-leb (f .value) 1000 k))
+    pub length-at : NumberAt s at (cutHead 36 (drop at s)) f × (f .value ≤ 1000)
+    length-at = let t = is-short f _ e h in (head-at s at 36 f (t .0) h, t .1)
 
-    module _ (k : f .value ≤ 1000) where
-      after : cutEnd (drop (f .value) (drop (f .next) s)) ≡ cutEnd (drop (f .next + f .value) s)
-      after = ap cutEnd (drop-drop (f .value) (f .next) s)
+    after : cutEnd (drop (f .value) (drop (f .next) s)) ≡ cutEnd (drop (f .next + f .value) s)
+    after = ap cutEnd (drop-drop (f .value) (f .next) s)
 
-      pub bulk-no-end : (n : ℕ) → n ≡ lineEnd s (f .next + f .value) → n ≡ 0 → bulkAt s at ≡ found 0 0
-      unfolding lineEnd bulkAt cutBulk
-      bulk-no-end n q z = rw (head-at s at 36 f e h .is, le-leb (f .value) 1000 k, after, end-missing s (f .next + f .value) n q z)
+    pub bulk-no-end : (n : ℕ) → n ≡ lineEnd s (f .next + f .value) → n ≡ 0 → bulkAt s at ≡ 0
+    unfolding lineEnd bulkAt cutBulk
+    bulk-no-end n q z = rw (length-at .0 .is, le-leb (f .value) 1000 (length-at .1), after, end-missing s (f .next + f .value) n q z)
 
-      pub bulk-short : length s - f .next < f .value → bulkAt s at ≡ found 0 0
-      bulk-short l = bulk-no-end 0 (sym (end-short s (f .next + f .value) (omega arith))) refl
+    pub bulk-short : length s - f .next < f .value → bulkAt s at ≡ 0
+    bulk-short l = bulk-no-end 0 (sym (end-short s (f .next + f .value) (omega arith))) refl
 
-      pub bulk-there : (n : ℕ) → n ≡ lineEnd s (f .next + f .value) → (n ≡ 0 → ⊥) → bulkAt s at ≡ found (f .value) n
-      unfolding lineEnd bulkAt cutBulk
-      bulk-there n q z =
-          let t = end-there s (f .next + f .value) n q z in
-          let l : length (take (f .value) (drop (f .next) s)) ≡ f .value = length-take-le (f .value) (drop (f .next) s) (omega (arith, length-drop (f .next) s, t .1, t .2)) in
-          rw (head-at s at 36 f e h .is, le-leb (f .value) 1000 k, after, t .0) (ap₂ found l (place-of s n (t .2)))
+    pub bulk-there : (n : ℕ) → n ≡ lineEnd s (f .next + f .value) → (n ≡ 0 → ⊥) → bulkAt s at ≡ f .value + 1
+    unfolding lineEnd bulkAt cutBulk
+    bulk-there n q z =
+        let t = end-there s (f .next + f .value) n q z in
+        let l : length (take (f .value) (drop (f .next) s)) ≡ f .value = length-take-le (f .value) (drop (f .next) s) (omega (arith, length-drop (f .next) s, t .1, t .2)) in
+        rw (length-at .0 .is, le-leb (f .value) 1000 (length-at .1), after, t .0) (ap (λ (i : ℕ). i + 1) l)
 
--- a bulk string lies before the place after it
-pub record IsBulk (s : List ℕ) (at : ℕ) (f : Found) : Type 0 where
-  pub is : cutBulk (drop at s) ≡ some (gives (area (f .next - 2 - f .value) (f .value) s) (drop (f .next) s))
-  pub short : f .value ≤ 1000
-  pub past : at + 2 + f .value ≤ f .next
-  pub within : f .next ≤ length s
+-- a bulk string of so many bytes, and where they begin
+pub record IsBulk (s : List ℕ) (at len from : ℕ) : Type 0 where
+  pub is : cutBulk (drop at s) ≡ some (gives (area from len s) (drop (from + len + 2) s))
+  pub short : len ≤ 1000
+  pub within : from + len + 2 ≤ length s
 
 module _ (s : List ℕ) (at : ℕ) where
-  bulk-some : (x : List ℕ) → 0 < length (bulk x)
+  bulk-lies : (x r : List ℕ) → drop at s ≡ bulk x ++ r → (from : ℕ) → from ≡ at + length (head 36 (length x))
+      → (area from (length x) s ≡ x) × (r ≡ drop (from + length x + 2) s) × (from + length x + 2 ≤ length s)
   unfolding bulk head
-  bulk-some x = omega arith
-
-  bulk-lies : (x r : List ℕ) → drop at s ≡ bulk x ++ r → (area (length s - length r - 2 - length x) (length x) s ≡ x) × (at + 2 + length x ≤ length s - length r)
-  unfolding bulk head
-  bulk-lies x r e =
+  bulk-lies x r e from q =
       let h : List ℕ = head 36 (length x) in
       let w : s ≡ (take at s ++ h) ++ (x ++ (crlf ++ r)) = sym (take-append-drop at s) ∙ ap (λ (l : List ℕ). take at s ++ l) e ∙ simp append-assoc in
       let m : length (bulk x) ≡ length h + (length x + 2) = length-append h (x ++ crlf) ∙ ap (λ (n : ℕ). length h + n) (length-append x crlf) in
-      let a : length (take at s) ≡ at = length-take-le at s (omega (arith, lengths s at (bulk x) r e)) in
-      let f : length (take at s ++ h) ≡ length s - length r - 2 - length x = omega (arith, length-append (take at s) h, lengths s at (bulk x) r e) in
-      (ap (area (length s - length r - 2 - length x) (length x)) w ∙ area-middle (take at s ++ h) x (crlf ++ r) (length s - length r - 2 - length x) (length x) f refl, omega (arith, lengths s at (bulk x) r e))
+      let n = lengths s at (bulk x) r e in
+      let a : length (take at s) ≡ at = length-take-le at s (omega (arith, n)) in
+      let f : length (take at s ++ h) ≡ from = omega (arith, length-append (take at s) h) in
+      let o : length s - length r ≡ from + length x + 2 = omega (arith, n) in (
+        ap (area from (length x)) w ∙ area-middle (take at s ++ h) x (crlf ++ r) from (length x) f refl,
+        left s at (bulk x) r e (omega arith) .is ∙ ap (λ (i : ℕ). drop i s) o,
+        omega (arith, n),
+      )
 
-  module _ (f : Found) where
-    bulk-go : (o : Option (Got (List ℕ))) → cutBulk (drop at s) ≡ o → f ≡ bulkBy s o → (f .next ≡ 0 → ⊥) → IsBulk s at f
-    bulk-go none p e h = absurd (h (ap (λ (g : Found). g .next) e))
-    bulk-go (some c) p e h =
+  module _ (n : ℕ) where
+    -- h is the size of its head
+    bulk-go : (o : Option (Got (List ℕ))) → cutBulk (drop at s) ≡ o → n ≡ bulkBy o → (n ≡ 0 → ⊥) → (h : ℕ) → h ≡ length (head 36 (n - 1)) → IsBulk s at (n - 1) (at + h)
+    bulk-go none p e k h q = absurd (k e)
+    bulk-go (some c) p e k h q =
+        let m : n - 1 ≡ length (c .got) = omega arith in
         let t = bulk-is (drop at s) c p in
-        let y = bulk-lies (c .got) (c .rest) (t .1) in
-        let l = left s at (bulk (c .got)) (c .rest) (t .1) (bulk-some (c .got)) in
-        rw e (record {
-          is = p ∙ ap₂ (λ (x r : List ℕ). some (gives x r)) (sym (y .0)) (l .is);
-          short = t .0;
-          past = y .1;
-          within = omega arith;
-        })
+        let y = bulk-lies (c .got) (c .rest) (t .1) (at + h) (ap (λ (i : ℕ). at + i) (q ∙ ap (λ (i : ℕ). length (head 36 i)) m)) in
+        rw m (record { is = p ∙ ap₂ (λ (x r : List ℕ). some (gives x r)) (sym (y .0)) (y .1); short = t .0; within = y .2 })
 
-    pub bulk-at : f ≡ bulkAt s at → (f .next ≡ 0 → ⊥) → IsBulk s at f
+    pub bulk-at : n ≡ bulkAt s at → (n ≡ 0 → ⊥) → (h : ℕ) → h ≡ length (head 36 (n - 1)) → IsBulk s at (n - 1) (at + h)
     unfolding bulkAt
     bulk-at = bulk-go (cutBulk (drop at s)) refl
 
-    none-go : (o : Option (Got (List ℕ))) → cutBulk (drop at s) ≡ o → f ≡ bulkBy s o → f .next ≡ 0 → cutBulk (drop at s) ≡ none
-    none-go none p e z = p
-    none-go (some c) p e z =
-        let l = left s at (bulk (c .got)) (c .rest) (bulk-is (drop at s) c p .1) (bulk-some (c .got)) in
-        absurd (omega (arith, ap (λ (g : Found). g .next) e, l .some-place))
+    none-go : (o : Option (Got (List ℕ))) → n ≡ bulkBy o → n ≡ 0 → o ≡ none
+    none-go none e z = refl
+    none-go (some c) e z = absurd (omega arith)
 
-    pub no-bulk : f ≡ bulkAt s at → f .next ≡ 0 → cutBulk (drop at s) ≡ none
+    pub no-bulk : n ≡ bulkAt s at → n ≡ 0 → cutBulk (drop at s) ≡ none
     unfolding bulkAt
-    no-bulk = none-go (cutBulk (drop at s)) refl
-
--- its bytes as they are lent
-pub bulk-part : {s : List ℕ} {at : ℕ} {f : Found} → IsBulk s at f → take (f .next - 2 - (f .next - 2 - f .value)) (drop (f .next - 2 - f .value) s) ≡ area (f .next - 2 - f .value) (f .value) s
-bulk-part {s} {at} {f} k =
-    let q : f .next - 2 - (f .next - 2 - f .value) ≡ f .value = omega (arith, k .past) in
-    ap (λ (n : ℕ). take n (drop (f .next - 2 - f .value) s)) q ∙ part-area (f .next - 2 - f .value) (f .value) s
+    no-bulk = none-go (cutBulk (drop at s))

@@ -28,12 +28,11 @@ use Rattle.resp.specs.Reply.{head, bulk, bulks, opening, entry}
 use Rattle.resp.specs.Parse.{Got, gives, Opening, openingOf, cutOpening, cutPairs, cutEntry}
 use Rattle.resp.proofs.Laws.{opening-is, pairs-is, entry-is}
 use Rattle.resp_read.specs.Answer.{endBy, openingBy, openingAt, sized, sizedBy, pairsAt, entryFound, entryBy, entryAt, bulkAt}
-use Rattle.resp_read.specs.declared.part.Found.{Found}
 use Rattle.resp_read.specs.declared.entry.OpeningFound.{OpeningFound}
 use Rattle.resp_read.specs.declared.entry.Sized.{Sized}
 use Rattle.resp_read.specs.declared.entry.EntryFound.{EntryFound}
 use Rattle.resp_read.proofs.Places.{Left, left, there, missing}
-use Rattle.resp_read.proofs.Parts.{place-of, IsBulk, bulk-at, no-bulk}
+use Rattle.resp_read.proofs.Parts.{place-of, IsBulk, no-bulk}
 use Rattle.resp_read.proofs.Openings.{opening-left}
 
 -- what a string takes as an element
@@ -47,12 +46,8 @@ size-more : (x : List ℕ) (xs : List (List ℕ)) → sizeOf (x ∷ xs) ≡ leng
 unfolding sizeOf elements
 size-more x xs = length-append (element x) (elements xs)
 
--- a bulk string where it lies
-abbrev pub stringOf : List ℕ → Found → List ℕ
-stringOf s f = area (f .next - 2 - f .value) (f .value) s
-
-pub string-length : {s : List ℕ} {at : ℕ} {f : Found} → IsBulk s at f → length (stringOf s f) ≡ f .value
-string-length {s} {at} {f} k = length-area (f .next - 2 - f .value) (f .value) s (omega (arith, k .past, k .within))
+pub string-length : {s : List ℕ} {at len from : ℕ} → IsBulk s at len from → length (area from len s) ≡ len
+string-length {s} {at} {len} {from} k = length-area from len s (omega (arith, k .within))
 
 -- a pair has bytes
 some-pair : (ps : List Pair) → 1 ≤ length ps → 0 < length (bulks ps)
@@ -60,7 +55,28 @@ unfolding bulks bulk head
 some-pair [] h = omega arith
 some-pair (p ∷ ps) h = omega arith
 
--- n pairs from a place on, beside a and b that are counted: f is the first field, v its value
+-- a pair and others: f is its field, v its value
+abbrev pub pairBefore : List ℕ → List ℕ → Option (Got (List Pair)) → Option (Got (List Pair))
+pairBefore x y o = o >>= (λ (c : Got (List Pair)). some (gives (pair x y ∷ c .got) (c .rest)))
+
+module _ (s : List ℕ) (n at : ℕ) (more : 0 < n) where
+  one-more : cutPairs n (drop at s) ≡ cutPairs (suc (n - 1)) (drop at s)
+  one-more = let q : n ≡ suc (n - 1) = omega arith in ap (λ (k : ℕ). cutPairs k (drop at s)) q
+
+  pub no-field : (f : ℕ) → f ≡ bulkAt s at → f ≡ 0 → cutPairs n (drop at s) ≡ none
+  unfolding cutPairs
+  no-field f e z = rw (one-more, no-bulk s at f e z)
+
+  module _ {i from : ℕ} (f : IsBulk s at i from) where
+    pub no-value : (v : ℕ) → v ≡ bulkAt s (from + i + 2) → v ≡ 0 → cutPairs n (drop at s) ≡ none
+    unfolding cutPairs
+    no-value v e z = rw (one-more, f .is, no-bulk s (from + i + 2) v e z)
+
+    pub pair-first : {j start : ℕ} → IsBulk s (from + i + 2) j start → cutPairs n (drop at s) ≡ pairBefore (area from i s) (area start j s) (cutPairs (n - 1) (drop (start + j + 2) s))
+    unfolding cutPairs
+    pair-first v = rw (one-more, f .is, v .is)
+
+-- n pairs from a place on, beside a and b that are counted
 module _ (a b : ℕ) (s : List ℕ) (n at : ℕ) where
   pub pairs-end : n ≡ 0 → at ≤ length s → pairsAt a b s n at ≡ sized a b at
   unfolding pairsAt cutPairs sizeOf elements slipPairs
@@ -69,33 +85,23 @@ module _ (a b : ℕ) (s : List ℕ) (n at : ℕ) where
       let q : b + 0 ≡ b = omega arith in
       rw z (ap₂ (λ (i j : ℕ). sized i j (length s - length (drop at s))) p q ∙ ap (sized a b) (place-of s at h))
 
-  module _ (more : 0 < n) (f : Found) (e : f ≡ bulkAt s at) where
-    one-more : cutPairs n (drop at s) ≡ cutPairs (suc (n - 1)) (drop at s)
-    one-more = let q : n ≡ suc (n - 1) = omega arith in ap (λ (k : ℕ). cutPairs k (drop at s)) q
+  pub pairs-none : cutPairs n (drop at s) ≡ none → pairsAt a b s n at ≡ sized 0 0 0
+  unfolding pairsAt
+  pairs-none e = rw e
 
-    pub pairs-no-field : f .next ≡ 0 → pairsAt a b s n at ≡ sized 0 0 0
-    unfolding pairsAt cutPairs
-    pairs-no-field z = rw (one-more, no-bulk s at f e z)
+  module _ (more : 0 < n) {i from j start : ℕ} (f : IsBulk s at i from) (v : IsBulk s (from + i + 2) j start) where
+    turned : (o : Option (Got (List Pair))) (x y : ℕ) → x ≡ length (element (area from i s)) → y ≡ length (element (area start j s))
+        → sizedBy a b s (pairBefore (area from i s) (area start j s) o) ≡ sizedBy (a + (x + y)) (b + (4 + i + j)) s o
+    turned none x y p q = refl
+    turned (some c) x y p q =
+        let fs = size-more (area from i s) (fieldsOf (c .got)) in
+        let vs = size-more (area start j s) (valuesOf (c .got)) in
+        let l = length-pairs (pair (area from i s) (area start j s)) (c .got) in
+        ap₂ (λ (k m : ℕ). sized k m (length s - length (c .rest))) (omega (arith, fs, vs)) (omega (arith, l, string-length f, string-length v))
 
-    module _ (h : f .next ≡ 0 → ⊥) (v : Found) (p : v ≡ bulkAt s (f .next)) where
-      pub pairs-no-value : v .next ≡ 0 → pairsAt a b s n at ≡ sized 0 0 0
-      unfolding pairsAt cutPairs
-      pairs-no-value z = rw (one-more, bulk-at s at f e h .is, no-bulk s (f .next) v p z)
-
-      module _ (k : v .next ≡ 0 → ⊥) where
-        turned : (o : Option (Got (List Pair))) (x y : ℕ) → x ≡ length (element (stringOf s f)) → y ≡ length (element (stringOf s v))
-            → sizedBy a b s (o >>= (λ (c : Got (List Pair)). some (gives (pair (stringOf s f) (stringOf s v) ∷ c .got) (c .rest)))) ≡ sizedBy (a + (x + y)) (b + (4 + f .value + v .value)) s o
-        turned none x y i j = refl
-        turned (some c) x y i j =
-            let fs = size-more (stringOf s f) (fieldsOf (c .got)) in
-            let vs = size-more (stringOf s v) (valuesOf (c .got)) in
-            let l = string-length (bulk-at s at f e h) in
-            let m = string-length (bulk-at s (f .next) v p k) in
-            ap₂ (λ (i j : ℕ). sized i j (length s - length (c .rest))) (omega (arith, fs, vs)) (omega (arith, length-pairs (pair (stringOf s f) (stringOf s v)) (c .got), l, m))
-
-        pub pairs-turn : (x y : ℕ) → x ≡ length (element (stringOf s f)) → y ≡ length (element (stringOf s v)) → pairsAt a b s n at ≡ pairsAt (a + (x + y)) (b + (4 + f .value + v .value)) s (n - 1) (v .next)
-        unfolding pairsAt cutPairs
-        pairs-turn x y i j = rw (one-more, bulk-at s at f e h .is, bulk-at s (f .next) v p k .is) (turned (cutPairs (n - 1) (drop (v .next) s)) x y i j)
+    pub pairs-turn : (x y : ℕ) → x ≡ length (element (area from i s)) → y ≡ length (element (area start j s)) → pairsAt a b s n at ≡ pairsAt (a + (x + y)) (b + (4 + i + j)) s (n - 1) (start + j + 2)
+    unfolding pairsAt
+    pairs-turn x y p q = rw (pair-first s n at more f v) (turned (cutPairs (n - 1) (drop (start + j + 2) s)) x y p q)
 
 -- what opening says
 pub record OpeningAt (s : List ℕ) (at : ℕ) (o : OpeningFound) : Type 0 where

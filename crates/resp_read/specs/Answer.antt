@@ -1,20 +1,20 @@
 -- What the functions that read replies answer, by what the parser gives from a place on: numbers and sizes, and the place after what was
 -- got, 0 for none. Assumes nothing.
-use mathlib.Core.Bool.{Bool, true, false}
 use mathlib.Core.List.{List, [], _∷_}
 use mathlib.Core.Option.{Option, some, none}
-use Prim.Native.Nat.{ℕ, zero, suc, _+_, _-_}
+use Prim.Native.Nat.{ℕ, _+_, _-_}
 use lib.Dec.{leb}
 use lib.ListN.{length, drop}
 use Rattle.octets.specs.Pick.{pick}
+use Rattle.octets.specs.Maybe.{_>>=_}
 use Rattle.octets.specs.Place.{put}
 use Rattle.id.specs.declared.Id.{Id}
 use Rattle.id.specs.Id.{least}
 use Rattle.slip.specs.Slip.{slipPairs, slip}
-use Rattle.node.specs.Message.{Pair, Message, fieldsOf, valuesOf}
+use Rattle.node.specs.Message.{Pair, Message, longestString, fieldsOf, valuesOf}
 use Rattle.node.specs.Answer.{sizeOf}
-use Rattle.resp.specs.Reply.{Reply, range, integer, error}
-use Rattle.resp.specs.Parse.{Got, Opening, cutEnd, cutDigits, cutNumber, cutHead, cutBulk, cutOpening, cutPairs, cutEntry, cutEntries}
+use Rattle.resp.specs.Reply.{messageAt, Reply, range, integer, error}
+use Rattle.resp.specs.Parse.{Got, gives, Opening, idIn, cutEnd, cutDigits, cutNumber, cutHead, cutBulk, cutOpening, cutPairs, cutEntry, cutEntries}
 use Rattle.resp.specs.Parse as resp
 use Rattle.resp_read.specs.declared.part.Found.{Found}
 use Rattle.resp_read.specs.declared.entry.IdFound.{IdFound}
@@ -54,19 +54,34 @@ numberAt s at = numberBy s (cutNumber (drop at s))
 unfoldable pub headAt : List ℕ → ℕ → ℕ → Found
 headAt s at b = numberBy s (cutHead b (drop at s))
 
-abbrev pub bulkBy : List ℕ → Option (Got (List ℕ)) → Found
-bulkBy s none = found 0 0
-bulkBy s (some c) = found (length (c .got)) (length s - length (c .rest))
+-- a number that is the length of a string, at most 1,000
+abbrev pub shortBy : Found → Found
+shortBy f = pick (leb (f .value) longestString) f (found 0 0)
 
-unfoldable pub bulkAt : List ℕ → ℕ → Found
-bulkAt s at = bulkBy s (cutBulk (drop at s))
+-- a string: one more than its length
+abbrev pub bulkBy : Option (Got (List ℕ)) → ℕ
+bulkBy none = 0
+bulkBy (some c) = length (c .got) + 1
 
-abbrev pub idFound : Id → Bool → IdFound
-idFound i t = record { id = i; is = t }
+unfoldable pub bulkAt : List ℕ → ℕ → ℕ
+bulkAt s at = bulkBy (cutBulk (drop at s))
 
-abbrev pub idBy : Option Id → IdFound
-idBy none = idFound least false
-idBy (some i) = idFound i true
+-- a string that is an ID
+unfoldable pub cutId : List ℕ → Option (Got Id)
+cutId s = do
+  x ← cutBulk s
+  i ← idIn (x .got)
+  some (gives i (x .rest))
+
+abbrev pub idFound : Id → ℕ → IdFound
+idFound i n = record { id = i; next = n }
+
+abbrev pub idBy : List ℕ → Option (Got Id) → IdFound
+idBy s none = idFound least 0
+idBy s (some c) = idFound (c .got) (length s - length (c .rest))
+
+unfoldable pub idAt : List ℕ → ℕ → IdFound
+idAt s at = idBy s (cutId (drop at s))
 
 -- how many pairs so many strings are
 abbrev pub countBy : Option ℕ → ℕ
@@ -118,12 +133,6 @@ readBy none = Bad
 readBy (some (range ms)) = Range (length ms)
 readBy (some (integer n)) = Integer n
 readBy (some (error n)) = Error n
-
--- the message at a place, from 0
-unfoldable pub messageAt : ℕ → List Message → Option Message
-messageAt n [] = none
-messageAt zero (m ∷ ms) = some m
-messageAt (suc n) (m ∷ ms) = messageAt n ms
 
 -- the message as a slip: no message there, or 8, the output is shorter
 abbrev pub pickedMessage : Option Message → ℕ → Picked

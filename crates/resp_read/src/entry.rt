@@ -5,17 +5,17 @@ ghost use Prim.Native.Nat.{_+_, _≤_};
 ghost use lib.ListN.{length};
 ghost use Rattle.octets.specs.Place.{area};
 ghost use Rattle.listpack.specs.Element.{element};
-ghost use Rattle.resp.specs.Parse.{idIn};
-ghost use Rattle.resp_read.specs.Answer.{idBy, pairCount, openingAt, pairsAt, entryAt, entriesEnd};
+ghost use Rattle.resp_read.specs.Answer.{idAt, pairCount, openingAt, pairsAt, entryAt, entriesEnd};
 use crate::part::bulk;
 use crate::part::head;
+use crate::part::line_end;
 use crate::part::number;
 use id::Id;
 
-// An ID, if there is one.
+// An ID, and the place after it.
 pub struct IdFound {
     pub id: Id,
-    pub is: bool,
+    pub next: usize,
 }
 
 // What stands before the pairs of an entry.
@@ -39,7 +39,7 @@ pub struct EntryFound {
 
 const NO_ID: IdFound = IdFound {
     id: Id::LEAST,
-    is: false,
+    next: 0,
 };
 
 const NO_OPENING: OpeningFound = OpeningFound {
@@ -59,30 +59,39 @@ const NO_ENTRY: EntryFound = EntryFound {
     next: 0,
 };
 
-fn id_in(s: &[u8]) -> IdFound
-    ensures { λ r. ⌜ r ≡ idBy (idIn (now (s .entry))) ⌝ }
+// A bulk string that is an ID. Its bytes are read where they lie: they must end where the length says.
+fn id_at(s: &[u8], at: usize) -> IdFound
+    ensures { λ r. ⌜ r ≡ idAt (now (s .entry)) at ⌝ }
 {
-    let ms = number(s, 0);
-    let at = ms.next;
-    if at == 0 {
+    let n = head(s, at, resp::BULK);
+    if n.next == 0 {
         return NO_ID;
     }
-    if s.len() <= at {
+    let ms = number(s, n.next);
+    let mid = ms.next;
+    if mid == 0 {
         return NO_ID;
     }
-    if s[at] != b'-' {
+    if s.len() <= mid {
         return NO_ID;
     }
-    let seq = number(s, at + 1);
+    if s[mid] != b'-' {
+        return NO_ID;
+    }
+    let seq = number(s, mid + 1);
     if seq.next == 0 {
         return NO_ID;
     }
-    if seq.next < s.len() {
+    if ((seq.next - n.next) as u64) != n.value {
+        return NO_ID;
+    }
+    let end = line_end(s, seq.next);
+    if end == 0 {
         return NO_ID;
     }
     IdFound {
         id: Id::new(ms.value, seq.value),
-        is: true,
+        next: end,
     }
 }
 
@@ -112,17 +121,11 @@ pub fn opening(s: &[u8], at: usize) -> OpeningFound
     if two.value != 2 {
         return NO_OPENING;
     }
-    let x = bulk(s, two.next);
-    if x.next == 0 {
+    let i = id_at(s, two.next);
+    if i.next == 0 {
         return NO_OPENING;
     }
-    let end = x.next - 2;
-    let from = end - x.value as usize;
-    let i = id_in(&s[from..end]);
-    if !i.is {
-        return NO_OPENING;
-    }
-    let n = head(s, x.next, resp::ARRAY);
+    let n = head(s, i.next, resp::ARRAY);
     if n.next == 0 {
         return NO_OPENING;
     }
@@ -158,18 +161,21 @@ pub fn pairs(s: &[u8], at: usize, n: usize) -> Sized
     let mut slip = 1;
     while 0 < left {
         let f = bulk(s, next);
-        if f.next == 0 {
+        if f == 0 {
             return NO_PAIRS;
         }
-        let v = bulk(s, f.next);
-        if v.next == 0 {
+        let a = f - 1;
+        let from = next + resp::head_size(a as u64);
+        let mid = from + a + 2;
+        let v = bulk(s, mid);
+        if v == 0 {
             return NO_PAIRS;
         }
-        let a = f.value as usize;
-        let b = v.value as usize;
-        alone += string_size(s, f.next - 2 - a, a) + string_size(s, v.next - 2 - b, b);
+        let b = v - 1;
+        let start = mid + resp::head_size(b as u64);
+        alone += string_size(s, from, a) + string_size(s, start, b);
         slip += 4 + a + b;
-        next = v.next;
+        next = start + b + 2;
         left -= 1;
     }
     Sized { alone, slip, next }

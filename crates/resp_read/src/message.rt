@@ -35,15 +35,15 @@ fn write_slip(out: &mut [u8], s: &[u8], at: usize, n: usize)
     let mut next = at;
     let mut to = 1;
     while 0 < left {
-        let f = bulk(s, next);
-        let v = bulk(s, f.next);
-        let mid = f.next - 2;
-        let from = mid - f.value as usize;
+        let a = bulk(s, next) - 1;
+        let from = next + resp::head_size(a as u64);
+        let mid = from + a;
+        let b = bulk(s, mid + 2) - 1;
+        let start = mid + 2 + resp::head_size(b as u64);
+        let end = start + b;
         to = slip::write_slip_string(out, to, &s[from..mid]);
-        let end = v.next - 2;
-        let start = end - v.value as usize;
         to = slip::write_slip_string(out, to, &s[start..end]);
-        next = v.next;
+        next = end + 2;
         left -= 1;
     }
 }

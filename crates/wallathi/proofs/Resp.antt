@@ -15,13 +15,13 @@ use Rattle.id.specs.declared.Id.{Id}
 use Rattle.id.specs.Id.{least}
 use Rattle.slip.specs.Slip.{slip}
 use Rattle.node.specs.Message.{Message}
-use Rattle.resp.specs.Reply.{Reply, range, integer, error, rangeBytes, replyBytes, isReply}
+use Rattle.resp.specs.Reply.{messageAt, Reply, range, integer, error, rangeBytes, replyBytes, isReply}
 use Rattle.resp.specs.Parse.{parseReply}
 use Rattle.resp.specs.Answer.{repliedBy, outputBy}
 use Rattle.resp.specs.declared.Replied.{Replied}
 use Rattle.resp.specs.declared.Replied.the-variants as replied
 use Rattle.resp.proofs.Laws.{reply-is, range-here, reply-here}
-use Rattle.resp_read.specs.Answer.{readBy, messageAt, pickedMessage, pickedBy, messageOutput, pickedOutput}
+use Rattle.resp_read.specs.Answer.{readBy, pickedMessage, pickedBy, messageOutput, pickedOutput}
 use Rattle.resp_read.specs.declared.reading.ReplyRead.{ReplyRead}
 use Rattle.resp_read.specs.declared.message.Picked.{Picked}
 use Rattle.resp_read.specs.declared.message.Picked.the-variants as picked

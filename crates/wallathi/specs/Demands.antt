@@ -15,9 +15,8 @@ use Rattle.id.specs.declared.Following.the-variants.{Next}
 use Rattle.id.specs.Id.{Fits64, below, atMost, followingOf}
 use Rattle.node.specs.Message.{Message}
 use Rattle.node.specs.Step.{findMessage, valueOf}
-use Rattle.resp.specs.Reply.{Reply, range, rangeBytes, replyBytes, isReply}
+use Rattle.resp.specs.Reply.{messageAt, Reply, range, rangeBytes, replyBytes, isReply}
 use Rattle.resp.specs.Parse.{parseReply}
-use Rattle.resp_read.specs.Answer.{messageAt}
 use Rattle.groups.specs.Group.{Pending, Group, isAmong, mostPending}
 use Rattle.groups.specs.Step.{findGroup}
 use Rattle.stream.specs.Ledger.{Ledger, emptyLedger, isLedger}

@@ -10,8 +10,7 @@ use Rattle.octets.specs.Pick.{pick}
 use Rattle.octets.specs.Place.{put}
 use Rattle.slip.specs.Slip.{slip}
 use Rattle.node.specs.Message.{Message}
-use Rattle.resp.specs.Reply.{Reply, range, integer, error, integerBytes, errorBytes, isCount, isRefusalNumber}
-use Rattle.resp_read.specs.Answer.{messageAt}
+use Rattle.resp.specs.Reply.{messageAt, Reply, range, integer, error, integerBytes, errorBytes, isCount, isRefusalNumber}
 use Rattle.stream.specs.Command.{refused}
 use Rattle.stream.specs.LedgerStep.{writes}
 use Rattle.wallathi.specs.Export.{Seen, seen, over, tellTo}

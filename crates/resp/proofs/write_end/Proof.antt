@@ -3,7 +3,7 @@ use mathlib.Core.Path.{refl}
 use native.Mathlib.Omega.{arith}
 use borrow.Author.Needs.{needs}
 use lib.ListN.{length-set}
-use Rattle.resp.proofs.Writing.{put-two}
+use Rattle.octets.proofs.Laws.{put-two}
 use Rattle.resp.proofs.write_end.Statement.{statement}
 use Rattle.resp.proofs.write_end.Tie as tie
 

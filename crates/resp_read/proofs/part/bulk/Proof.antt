@@ -2,7 +2,7 @@
 use mathlib.Core.Path.{sym}
 use native.Mathlib.Omega.{arith}
 use borrow.Author.Needs.{needs}
-use Rattle.resp_read.proofs.Parts.{head-at, bulk-none, bulk-long, bulk-short, bulk-no-end, bulk-there}
+use Rattle.resp_read.proofs.Parts.{length-at, bulk-none, bulk-short, bulk-no-end, bulk-there}
 use Rattle.resp_read.proofs.part.bulk.Statement.{statement}
 use Rattle.resp_read.proofs.part.bulk.Tie as tie
 
@@ -11,11 +11,11 @@ bulk-spec =
     tie.close
     (tie.spec
     (λ c κs. search needs)
-    (λ c. sym (bulk-none _ _ _ (c .before .before .head .ensures) (omega arith)))
-    (λ c. sym (bulk-long _ _ _ (c .before .before .before .before .head .ensures) (omega arith) (omega arith)))
-    (λ c. omega (arith, head-at _ _ _ _ (c .before .before .before .before .before .head .ensures) (omega arith) .within))
-    (λ c. sym (bulk-short _ _ _ (c .before .before .before .before .before .before .before .head .ensures) (omega arith) (omega arith) (omega arith)))
+    (λ c. sym (bulk-none _ _ _ (c .before .before .length-head .ensures) (omega arith)))
+    (λ c. omega (arith, length-at _ _ _ (c .before .before .before .length-head .ensures) (omega arith) .0 .within))
+    (λ c. sym (bulk-short _ _ _ (c .before .before .before .before .before .length-head .ensures) (omega arith) (omega arith)))
     (λ c. search needs)
     (λ c κs. search needs)
-    (λ c. sym (bulk-no-end _ _ _ (c .before .before .before .before .before .before .before .before .before .before .head .ensures) (omega arith) (omega arith) _ (c .before .line-end .ensures) (omega arith)))
-    (λ c. sym (bulk-there _ _ _ (c .before .before .before .before .before .before .before .before .before .before .head .ensures) (omega arith) (omega arith) _ (c .before .line-end .ensures) (omega arith))))
+    (λ c. sym (bulk-no-end _ _ _ (c .before .before .before .before .before .before .before .before .length-head .ensures) (omega arith) _ (c .before .line-end .ensures) (omega arith)))
+    (λ c. omega (arith, length-at _ _ _ (c .before .before .before .before .before .before .before .before .length-head .ensures) (omega arith) .1))
+    (λ c. sym (bulk-there _ _ _ (c .before .before .before .before .before .before .before .before .length-head .ensures) (omega arith) _ (c .before .line-end .ensures) (omega arith))))
