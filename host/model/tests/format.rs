@@ -8,6 +8,7 @@ use wallathi_model::id::Id;
 use wallathi_model::image;
 use wallathi_model::index::record;
 use wallathi_model::ledger::{Answer, Command, Model, Store};
+use wallathi_model::reply::Reply;
 use wallathi_model::slip;
 use wallathi_model::snapshot;
 
@@ -96,6 +97,14 @@ fn the_snapshot() {
     let file = snapshot::snapshot(&example().1.ledger).expect("few nodes");
     assert_eq!(block("snapshot", file.len()).len(), file.len());
     same("snapshot", &file);
+}
+
+#[test]
+fn the_range_reply() {
+    let messages = example().1.ledger.messages.into_iter().collect();
+    let bytes = Reply::Range(messages).to_bytes();
+    assert_eq!(block("range", bytes.len()).len(), bytes.len());
+    same("range", &bytes);
 }
 
 #[test]
