@@ -18,7 +18,7 @@ use Rattle.listpack.specs.Width.{extend, halfOf}
 use Rattle.listpack.specs.Element.{backLength}
 use Rattle.listpack.specs.Read.{parse, asInteger, closeInteger, integerStands, asText, closeText, textStands, tagWidth, readWide, readBy, readElement}
 use Rattle.listpack.specs.AtPlace.{sizeOf}
-use Rattle.listpack.specs.Known.{ElementAt, ElementsAt, stringBy, stringAt, patternIn, sizeAt, patternAt, afterAt, endAt, areThere}
+use Rattle.listpack.specs.Known.{ElementAt, ElementsAt, stringBy, stringAt, patternIn, sizeAt, patternAt, afterAt, endAt, areThere, textIn, textAt, startIn, startAt}
 use Rattle.listpack.specs.declared.Element.{Element}
 use Rattle.listpack.specs.declared.Element.the-variants.{Integer, Text, Bad}
 use Rattle.listpack.proofs.Sound.{Sound, sound}
@@ -167,7 +167,7 @@ module _ (s : List ℕ) (at : ℕ) (k : ElementAt s at) where
           by true e = eqb-true b 244 e
           by false e = absurd (no-tag (drop at s) (tagWidth b) reads (tag-none b x y z (eqb-false b 244 e)))
 
--- size and pattern by what the reader says
+-- size, pattern and text by what the reader says
 pub size-by : (s : List ℕ) (at : ℕ) (e : Element) → readElement (drop at s) ≡ e → sizeOf e ≡ sizeAt s at
 unfolding sizeAt
 size-by s at e q = ap sizeOf (sym q)
@@ -175,6 +175,14 @@ size-by s at e q = ap sizeOf (sym q)
 pub pattern-by : (s : List ℕ) (at : ℕ) (e : Element) → readElement (drop at s) ≡ e → patternIn e ≡ patternAt s at
 unfolding patternAt
 pattern-by s at e q = ap patternIn (sym q)
+
+pub text-by : (s : List ℕ) (at : ℕ) (e : Element) → readElement (drop at s) ≡ e → textIn e ≡ textAt s at
+unfolding textAt
+text-by s at e q = ap textIn (sym q)
+
+pub start-by : (s : List ℕ) (at : ℕ) (e : Element) → readElement (drop at s) ≡ e → startIn e ≡ startAt s at
+unfolding startAt
+start-by s at e q = ap startIn (sym q)
 
 pub sized-integer : (s : List ℕ) (at p n m : ℕ) → readElement (drop at s) ≡ Integer p n → m ≡ sizeAt s at → Integer p m ≡ readElement (drop at s)
 sized-integer s at p n m q h = ap (Integer p) (h ∙ sym (size-by s at (Integer p n) q)) ∙ sym q
@@ -254,6 +262,30 @@ module _ (s : List ℕ) (at : ℕ) (b : Bytes s) (k : ElementAt s at) where
 
     pub no-bad : e ≡ Bad → ⊥
     no-bad f = never (is-there s at k) (ap stands (sym q ∙ f))
+
+  -- by the length of a text, plus 1: an integer, or a text
+  pub number-there : textAt s at ≡ 0 → stringAt s at ≡ textOf (patternAt s at)
+  unfolding textAt patternAt
+  number-there z = by (readElement (drop at s)) refl z
+    where
+      by : (e : Element) → e ≡ readElement (drop at s) → textIn e ≡ 0 → stringAt s at ≡ textOf (patternIn e)
+      by (Integer p n) q z = integer-string (Integer p n) q p n refl
+      by (Text a l n) q z = absurd (omega arith)
+      by Bad q z = absurd (no-bad Bad q refl)
+
+  pub string-there : (l : ℕ) → textAt s at ≡ l + 1
+      → (l ≡ length (stringAt s at)) × (l < 4096) × (at + startAt s at + l ≤ length s) × (area (at + startAt s at) l s ≡ stringAt s at)
+  unfolding textAt startAt
+  string-there l z = by (readElement (drop at s)) refl z
+    where
+      by : (e : Element) → e ≡ readElement (drop at s) → textIn e ≡ l + 1
+          → (l ≡ length (stringAt s at)) × (l < 4096) × (at + startIn e + l ≤ length s) × (area (at + startIn e) l s ≡ stringAt s at)
+      by (Integer p n) q z = absurd (omega arith)
+      by (Text a m n) q z =
+          let i : m ≡ l = omega arith in
+          let k = text-length-is (Text a m n) q a m n refl in
+          (omega (arith, k .0), omega (arith, k .1), omega (arith, text-within (Text a m n) q a m n refl), ap (λ (x : ℕ). area (at + a) x s) (sym i) ∙ sym (area-drop at a m s) ∙ sym (text-string (Text a m n) q a m n refl))
+      by Bad q z = absurd (no-bad Bad q refl)
 
 -- the bytes of an integer of three bytes or more are there
 module _ (s : List ℕ) (at : ℕ) (y : Bytes s) (k : ElementAt s at) (b : ℕ) (first : b ≡ getD s at 0) (h : 240 ≤ b) where

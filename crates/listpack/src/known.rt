@@ -5,7 +5,7 @@ ghost use Prim.Native.Nat.{_≤_, _<_};
 ghost use lib.ListN.{length, getD, drop};
 ghost use Rattle.octets.specs.Compare.{same};
 ghost use Rattle.listpack.specs.Read.{readElement};
-ghost use Rattle.listpack.specs.Known.{ElementAt, ElementsAt, stringAt, sizeAt, patternAt, smallAt, isEnd, endAt};
+ghost use Rattle.listpack.specs.Known.{ElementAt, ElementsAt, stringAt, sizeAt, patternAt, smallAt, isEnd, endAt, textAt, startAt};
 use crate::Element;
 use crate::form::HALF_16;
 use crate::form::HALF_24;
@@ -114,6 +114,48 @@ pub fn known_end(s: &[u8], at: usize, n: usize) -> usize
         k -= 1;
     }
     to
+}
+
+// The length of the text there, plus 1; 0 where an integer stands. In one number, where `known_element` answers through memory.
+pub fn known_text(s: &[u8], at: usize) -> usize
+    requires { ⌜ ElementAt (now s) at ⌝ }
+    ensures { λ r. ⌜ r ≡ textAt (now (s .entry)) at ⌝ }
+{
+    let b = octets::wide(s[at]);
+    if b < 128 {
+        return 0;
+    }
+    if b < 192 {
+        return (b - 127) as usize;
+    }
+    if b < 224 {
+        return 0;
+    }
+    if b < 240 {
+        return (256 * (b - 224) + octets::wide(s[at + 1])) as usize + 1;
+    }
+    0
+}
+
+// How far from its element's place the text starts.
+pub fn known_start(s: &[u8], at: usize) -> usize
+    requires { ⌜ ElementAt (now s) at ⌝ }
+    ensures { λ r. ⌜ r ≡ startAt (now (s .entry)) at ⌝ }
+{
+    let b = octets::wide(s[at]);
+    if b < 128 {
+        return 0;
+    }
+    if b < 192 {
+        return 1;
+    }
+    if b < 224 {
+        return 0;
+    }
+    if b < 240 {
+        return 2;
+    }
+    0
 }
 
 // The element there.

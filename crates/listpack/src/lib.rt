@@ -23,6 +23,8 @@ pub use known::known_integer;
 pub use known::known_is;
 pub use known::known_size;
 pub use known::known_small;
+pub use known::known_start;
+pub use known::known_text;
 pub use known::same_element;
 pub use size::element_size;
 pub use size::integer_size;

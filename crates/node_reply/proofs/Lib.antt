@@ -2,3 +2,4 @@
 pub mod Laws
 pub mod Written
 pub mod Bulks
+pub mod Known

@@ -9,7 +9,6 @@ ghost use Rattle.decimal.specs.Text.{textOf};
 ghost use Rattle.listpack.specs.Known.{ElementAt, ElementsAt, stringAt, afterAt};
 ghost use Rattle.resp.specs.Reply.{bulk};
 ghost use Rattle.node_reply.specs.Sizes.{stringsSize};
-use listpack::Element;
 use node_read::Passed;
 use resp::BULK;
 
@@ -21,6 +20,18 @@ pub fn bulk_size(n: usize) -> usize
     resp::head_size(n as u64) + n + 2
 }
 
+// The length of the string of the element at a place.
+fn string_len(s: &[u8], at: usize) -> usize
+    requires { ⌜ ElementAt (now s) at ⌝ }
+    ensures { λ r. ⌜ (r ≡ length (stringAt (now (s .entry)) at)) × (r < 4096) ⌝ }
+{
+    let t = listpack::known_text(s, at);
+    if t == 0 {
+        return decimal::text_size(listpack::known_integer(s, at));
+    }
+    t - 1
+}
+
 // How many bytes the strings of n elements take, from a place on.
 pub fn strings_size(s: &[u8], at: usize, n: usize) -> usize
     requires { ⌜ (ElementsAt n (now s) at) × (n < 256) ⌝ }
@@ -30,9 +41,8 @@ pub fn strings_size(s: &[u8], at: usize, n: usize) -> usize
     let mut to = at;
     let mut left = n;
     while 0 < left {
-        let x = node_read::measure(s, to);
-        size += bulk_size(x.len);
-        to = x.next;
+        size += bulk_size(string_len(s, to));
+        to = to + listpack::known_size(s, to);
         left -= 1;
     }
     size
@@ -65,21 +75,13 @@ pub fn put_bulk(s: &[u8], at: usize, out: &mut [u8], to: usize) -> Passed
     requires { ⌜ (ElementAt (now s) at) × (to + length (bulk (stringAt (now s) at)) ≤ length (now out)) ⌝ }
     ensures { λ r. ⌜ (r .next ≡ afterAt (now (s .entry)) at) × (r .to ≡ to + length (bulk (stringAt (now (s .entry)) at))) × (now (out .exit) ≡ put (now (out .entry)) to (bulk (stringAt (now (s .entry)) at))) ⌝ }
 {
-    match listpack::known_element(s, at) {
-        Element::Integer { pattern, size } => {
-            let end = put_number(pattern, out, to);
-            Passed {
-                next: at + size,
-                to: end,
-            }
-        }
-        Element::Text { start, len, size } => {
-            let end = put_text(s, at + start, len, out, to);
-            Passed {
-                next: at + size,
-                to: end,
-            }
-        }
-        Element::Bad => Passed { next: at, to },
+    let t = listpack::known_text(s, at);
+    let next = at + listpack::known_size(s, at);
+    if t == 0 {
+        let end = put_number(listpack::known_integer(s, at), out, to);
+        return Passed { next, to: end };
     }
+    let from = at + listpack::known_start(s, at);
+    let end = put_text(s, from, t - 1, out, to);
+    Passed { next, to: end }
 }
