@@ -1,5 +1,5 @@
 // A message of a node in a slot that is in order, written as an entry of a range reply (02, CR 4). Which bytes they are is said in the
-// crate resp, specs/Reply. Each element is read once.
+// crate resp, specs/Reply.
 
 mod entry;
 mod id_text;

@@ -90,7 +90,7 @@ entry-is s c e =
     rw (← some-is e) (rw append-assoc t, fits, rules)
 
 -- the text of an ID is a string
-id-short : (i : Id) → length (idText i) ≤ 1000
+pub id-short : (i : Id) → length (idText i) ≤ 1000
 unfolding idText
 id-short i =
     omega (arith, length-append (naturalText (i .ms)) (45 ∷ naturalText (i .seq)), length-natural (i .ms), length-natural (i .seq))

@@ -11,13 +11,12 @@ use borrow.Author.Tests.{eq-eqb, ne-eqb, eqb-true, lt-ltb}
 use Rattle.octets.specs.Maybe.{_>>=_, _>>_, need}
 use Rattle.octets.proofs.Laws.{cut, needed, answered, some-is}
 use Rattle.decimal.specs.Text.{naturalText}
-use Rattle.decimal.proofs.Laws.{length-natural}
 use Rattle.id.specs.declared.Id.{Id}
 use Rattle.id.specs.Id.{idOf, least, isId}
 use Rattle.id.proofs.Laws.{id-fits}
 use Rattle.resp.specs.Reply.{crlf, head, bulk, idText}
 use Rattle.resp.specs.Parse.{Got, gives, cutByte, cutEnd, cutNumber, cutHead, cutBulk, idIn}
-use Rattle.resp.proofs.Laws.{number-is, byte-is, end-is, head-is, bulk-is, id-is, number-here, byte-here, end-here, head-here, bulk-here, id-here}
+use Rattle.resp.proofs.Laws.{id-short, number-is, byte-is, end-is, head-is, bulk-is, id-is, number-here, byte-here, end-here, head-here, bulk-here, id-here}
 use Rattle.resp_read.specs.Answer.{endBy, cutId, idFound, idBy, idAt, lineEnd, numberAt, headAt}
 use Rattle.resp_read.specs.declared.part.Found.{Found}
 use Rattle.resp_read.specs.declared.entry.IdFound.{IdFound}
@@ -57,10 +56,6 @@ here-is s c e =
     rw (← some-is e) (simp (lt-ltb (ms .got) (2 ^ 64) (a .0), lt-ltb (seq .got) (2 ^ 64) (b .0)), f ∙ sym g)
 
 module _ (i : Id) where
-  short : length (idText i) ≤ 1000
-  unfolding idText
-  short = omega (arith, length-append (naturalText (i .ms)) (45 ∷ naturalText (i .seq)), length-natural (i .ms), length-natural (i .seq))
-
   module _ (r : List ℕ) (e : isId i ≡ true) where
     ms-here : cutNumber (idText i ++ (crlf ++ r)) ≡ some (gives (i .ms) (45 ∷ (naturalText (i .seq) ++ (crlf ++ r))))
     unfolding idText
@@ -72,7 +67,7 @@ module _ (i : Id) where
         rw (
           append-assoc,
           append-assoc,
-          head-here 36 (length (idText i)) (idText i ++ (crlf ++ r)) (omega (arith, short)),
+          head-here 36 (length (idText i)) (idText i ++ (crlf ++ r)) (omega (arith, id-short i)),
           ms-here,
           byte-here 45 (naturalText (i .seq) ++ (crlf ++ r)),
           number-here (i .seq) (crlf ++ r) (id-fits i e .seq-fits) refl,
@@ -82,7 +77,7 @@ module _ (i : Id) where
 
     id-back : cutId (bulk (idText i) ++ r) ≡ some (gives i r)
     unfolding cutId
-    id-back = rw (bulk-here (idText i) r short, id-here i e)
+    id-back = rw (bulk-here (idText i) r (id-short i), id-here i e)
 
 id-reads : (s : List ℕ) (c : Got Id) → cutId s ≡ some c → Reads s c
 unfolding cutId
