@@ -161,6 +161,17 @@ fn signed(bytes: &[u8]) -> i64 {
     i64::from_le_bytes(whole)
 }
 
+/// Where a text starts and its length, if the element there, which is in order, is one.
+#[inline(always)]
+pub fn text_at(bytes: &[u8], at: usize) -> Option<(usize, usize)> {
+    let first = bytes[at];
+    match first {
+        0x80..=0xBF => Some((at + 1, usize::from(first & 0x3F))),
+        0xE0..=0xEF => Some((at + 2, usize::from(first & 0x0F) << 8 | usize::from(bytes[at + 1]))),
+        _ => None,
+    }
+}
+
 /// An integer that is in order, and the place after it.
 #[inline(always)]
 pub fn integer_at(bytes: &[u8], at: usize) -> (i64, usize) {
