@@ -1,10 +1,13 @@
 // report FILE NAME: the channel report (02, CR 2) of the field NAME over every message of a saved file, on standard output: six lines, or the
-// number of a refusal alone. Which lines is said in specs/Printed. The exit status is 0 in either case: the answer is what is printed.
+// number of a refusal alone. Which lines is said in specs/Printed. The exit status is 0 in either case, for the answer is what is printed, and 1
+// where it cannot be written.
 //
 // Proved: `answer` leaves exactly these lines in `out`, whatever bytes the file has and whatever the name is, and `main` hands them to one
 // write; what lies beyond the two buffers would not change the answer (proofs/Limits). No contract says which bytes a call of the system reads
 // or writes: that the name is the argument's bytes, that the file's bytes are those it read, and that the lines arrive, rests on the system
-// and on the kit's os, io and libc.
+// and on std's env, fs and io.
+
+#![tactic(auto)]
 
 mod finding;
 mod input;
@@ -13,9 +16,10 @@ mod text;
 ghost use Rattle.std.specs.Prelude.{◌≤◌, length};
 ghost use Rattle.report.specs.Printed.{Prints};
 
-use libc::STDOUT_FILENO;
 use node::SLOT_BYTES;
 use state::{STATE_BYTES, State};
+use std::io;
+use std::io::Write;
 
 // As many slots as a store has at most.
 const STORE_BYTES: usize = 64 * SLOT_BYTES;
@@ -38,14 +42,14 @@ fn answer(
     text::write(out, r)
 }
 
-fn main() {
+fn main(rt: HostRuntime) -> io::Result<()> {
     let mut name = [0u8; input::NAME_BYTES];
     let mut file = [0u8; input::FILE_BYTES];
     let mut store = [0u8; STORE_BYTES];
     let mut state = [0u8; STATE_BYTES];
     let mut out = [0u8; OUT_BYTES];
-    let n = input::name(&mut name);
-    let size = input::file(&mut file);
+    let n = input::name(&rt, &mut name);
+    let size = input::file(&rt, &mut file);
     let end = answer(
         &file[0..size],
         &name[0..n],
@@ -53,5 +57,5 @@ fn main() {
         &mut state,
         &mut out,
     );
-    io::write_all(STDOUT_FILENO, &out[0..end]);
+    io::writer(&rt).write_all(&out[0..end])
 }

@@ -1,6 +1,9 @@
-// Bytes and numbers written to standard output, for the programs whose output is compared.
+// Bytes and numbers written to a writer, for the programs whose output is compared.
 
-use libc::STDOUT_FILENO;
+#![tactic(auto)]
+
+use std::io;
+use std::io::Write;
 
 // One digit of a hexadecimal number, in upper case.
 fn digit(n: u8) -> u8 {
@@ -12,52 +15,58 @@ fn digit(n: u8) -> u8 {
     }
 }
 
-fn byte(b: u8) {
+fn byte<W: Write>(out: &mut W, b: u8) -> io::Result<()> {
     let text = [digit(b / 16), digit(b)];
-    io::write_all(STDOUT_FILENO, &text);
+    out.write_all(&text)
 }
 
 // A label or a separator, as it is.
-pub fn text(s: &[u8]) {
-    io::write_all(STDOUT_FILENO, s);
+pub fn text<W: Write>(out: &mut W, s: &[u8]) -> io::Result<()> {
+    out.write_all(s)
 }
 
 // Two digits a byte, each after the separator.
-pub fn hex(s: &[u8], separator: &[u8]) {
+pub fn hex<W: Write>(out: &mut W, s: &[u8], separator: &[u8]) -> io::Result<()> {
     let mut i = 0;
     while i < s.len() {
-        text(separator);
-        byte(s[i]);
+        text(out, separator)?;
+        byte(out, s[i])?;
         i += 1;
     }
+    Ok(())
 }
 
 // The element of a string, if it has one, without its first `skipped` bytes.
-pub fn element(s: &[u8], skipped: usize, separator: &[u8]) {
+pub fn element<W: Write>(
+    out: &mut W,
+    s: &[u8],
+    skipped: usize,
+    separator: &[u8],
+) -> io::Result<()> {
     if 4095 < s.len() {
-        return;
+        return Ok(());
     }
     let mut d = [0u8; 4200];
     let n = listpack::write_string(&mut d, 0, s);
     if n < skipped {
-        return;
+        return Ok(());
     }
-    hex(&d[skipped..n], separator);
+    hex(out, &d[skipped..n], separator)
 }
 
 // A label, and a space and two digits for each byte, on a line.
-pub fn line(label: &[u8], s: &[u8]) {
-    text(label);
-    hex(s, b" ");
-    text(b"\n");
+pub fn line<W: Write>(out: &mut W, label: &[u8], s: &[u8]) -> io::Result<()> {
+    text(out, label)?;
+    hex(out, s, b" ")?;
+    text(out, b"\n")
 }
 
 // A label, a space and a number, on a line.
-pub fn count(label: &[u8], n: u64) {
-    text(label);
-    text(b" ");
-    io::print_decimal(STDOUT_FILENO, n);
-    text(b"\n");
+pub fn count<W: Write>(out: &mut W, label: &[u8], n: u64) -> io::Result<()> {
+    text(out, label)?;
+    text(out, b" ")?;
+    write!(out, "{n}")?;
+    text(out, b"\n")
 }
 
 // Adler-32 (RFC 1950).
@@ -74,6 +83,6 @@ fn checksum(s: &[u8]) -> u64 {
 }
 
 // A label, a space and the checksum of bytes, on a line.
-pub fn sum(label: &[u8], s: &[u8]) {
-    count(label, checksum(s));
+pub fn sum<W: Write>(out: &mut W, label: &[u8], s: &[u8]) -> io::Result<()> {
+    count(out, label, checksum(s))
 }

@@ -1,23 +1,28 @@
 // Writes the byte examples of the exact rules that are not proved against the definitions. What it must write is the file stdout
 // beside it, which the independent program of the same name under host/ writes too.
 
+#![tactic(auto)]
+
 ghost use Rattle.std.specs.Prelude.{◌+◌, ◌≤◌, ◌<◌, length};
 
+use std::io;
+use std::io::Write;
+
 // The element of a string.
-fn whole(label: &[u8], s: &[u8]) {
-    show::text(label);
-    show::element(s, 0, b" ");
-    show::text(b"\n");
+fn whole<W: Write>(out: &mut W, label: &[u8], s: &[u8]) -> io::Result<()> {
+    show::text(out, label)?;
+    show::element(out, s, 0, b" ")?;
+    show::text(out, b"\n")
 }
 
 // The back length of the element of n letters, which follows a head of 2 bytes.
-fn back_length(label: &[u8], n: usize)
+fn back_length<W: Write>(out: &mut W, label: &[u8], n: usize) -> io::Result<()>
     requires { n ≤ 128 }
 {
     let letters = [b'x'; 128];
-    show::text(label);
-    show::element(&letters[0..n], 2 + n, b" ");
-    show::text(b"\n");
+    show::text(out, label)?;
+    show::element(out, &letters[0..n], 2 + n, b" ")?;
+    show::text(out, b"\n")
 }
 
 // One element more, with a byte left after it; nothing where there is no such room.
@@ -32,7 +37,7 @@ fn push(d: &mut [u8], at: usize, s: &[u8]) -> usize
 }
 
 // How a listpack grows: where the next element goes, and how many there are.
-#[derive(Drop)]
+#[derive(Clone, Copy)]
 struct End {
     at: usize,
     count: u64,
@@ -60,7 +65,7 @@ fn push_all(d: &mut [u8], strings: &[u8]) -> End
 }
 
 // 5-0 with a=1, then 6-0 with b empty: master, first message by the master's fields, second message with its own.
-fn node(d: &mut [u8])
+fn node<W: Write>(out: &mut W, d: &mut [u8]) -> io::Result<()>
     requires { 6 < length d.old }
 {
     let end = push_all(
@@ -70,18 +75,19 @@ fn node(d: &mut [u8])
     let at = end.at;
     d[at] = 255;
     listpack::write_header(d, (at + 1) as u64, end.count);
-    show::line(b"node 5-0 a=1, 6-0 b empty:", &d[0..at + 1]);
-    show::count(b"node bytes:", (at + 1) as u64);
-    show::count(b"node elements:", end.count);
+    show::line(out, b"node 5-0 a=1, 6-0 b empty:", &d[0..at + 1])?;
+    show::count(out, b"node bytes:", (at + 1) as u64)?;
+    show::count(out, b"node elements:", end.count)
 }
 
-fn main() {
-    whole(b"127:", b"127");
-    whole(b"4095:", b"4095");
-    whole(b"32768:", b"32768");
-    whole(b"8388608:", b"8388608");
-    back_length(b"text of 125 bytes, back length:", 125);
-    back_length(b"text of 126 bytes, back length:", 126);
+fn main(rt: HostRuntime) -> io::Result<()> {
+    let mut out = io::writer(&rt);
+    whole(&mut out, b"127:", b"127")?;
+    whole(&mut out, b"4095:", b"4095")?;
+    whole(&mut out, b"32768:", b"32768")?;
+    whole(&mut out, b"8388608:", b"8388608")?;
+    back_length(&mut out, b"text of 125 bytes, back length:", 125)?;
+    back_length(&mut out, b"text of 126 bytes, back length:", 126)?;
     let mut d = [0u8; 64];
-    node(&mut d);
+    node(&mut out, &mut d)
 }

@@ -1,0 +1,7 @@
+-- `extremes` meets its contract. Assumes nothing.
+use native.Mathlib.Omega.{arith}
+use Rattle.report.proofs.Lines.{then_lines}
+use Rattle.report.proofs.text.extremes.Goals as goal
+
+pub returns : goal.returns
+returns c = then_lines (omega arith) c.number-at.ensures c.number.ensures
