@@ -1,5 +1,7 @@
 // What the benchmark under host/bench calls of listpacks, exported to C: the reader and the writers of whole ones.
 
+#![tactic(auto)]
+
 ghost use Rattle.std.specs.Prelude.{◌≡◌, ◌+◌, ◌≤◌, length};
 ghost use Rattle.octets.specs.Pick.{pick};
 ghost use Rattle.bench.specs.Whole.{holds_strings};

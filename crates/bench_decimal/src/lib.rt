@@ -1,5 +1,7 @@
 // What the benchmark and the tests under host/bench call of integer recognition, exported to C.
 
+#![tactic(auto)]
+
 ghost use Rattle.std.specs.Prelude.{◌≡◌};
 ghost use Rattle.decimal.specs.Integer.{pattern_of, recognised_by};
 ghost use Rattle.bench_decimal.specs.Told.{code_of, over};

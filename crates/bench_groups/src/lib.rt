@@ -1,6 +1,8 @@
 // What the benchmark calls of groups: a group in its region and the area of all groups. Each function judges the bytes first, as the
 // commands of a store do, and says by a number why it changed nothing.
 
+#![tactic(auto)]
+
 ghost use Rattle.std.specs.Prelude.{◌≡◌, not};
 ghost use Rattle.octets.specs.Maybe.{is_none};
 ghost use Rattle.id.specs.Id.{id_of};

@@ -1,5 +1,7 @@
 // What the benchmark calls of a node in its slot. Each function judges the slot first, as the commands of a store do.
 
+#![tactic(auto)]
+
 ghost use Rattle.std.specs.Prelude.{◌≡◌, length};
 ghost use Rattle.id.specs.Id.{id_of};
 ghost use Rattle.bench_node.specs.Answer.{as_number};

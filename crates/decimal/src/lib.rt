@@ -1,5 +1,7 @@
 // Which strings are integers, and the text of an integer. What each function answers is said in specs/.
 
+#![tactic(auto)]
+
 mod recognition;
 mod text;
 
@@ -9,7 +11,7 @@ pub use recognition::{Recogniser, recognise};
 pub use text::{natural_size, text_size, write_natural, write_sized, write_text};
 
 // Whether a string is an integer: its 64-bit two's complement pattern.
-#[derive(Drop)]
+#[derive(Clone, Copy)]
 pub enum Recognised {
     Integer(u64),
     Other,

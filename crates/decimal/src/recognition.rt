@@ -8,7 +8,7 @@ ghost use Rattle.decimal.specs.declared.recognition.Prefix.TheVariants.{Empty};
 use crate::{HALF, Recognised, negated};
 
 // What the bytes so far are.
-#[derive(Drop)]
+#[derive(Clone, Copy)]
 pub enum Prefix {
     Empty,
     Minus,
@@ -18,7 +18,7 @@ pub enum Prefix {
     Failed,
 }
 
-#[derive(Drop)]
+#[derive(Clone, Copy)]
 pub struct Recogniser(pub Prefix);
 
 // 10^18: from here on a number has no room for one more digit.

@@ -1,6 +1,8 @@
 // The groups area of the state, 57,760 lent bytes: eight regions, groups by rising name, free regions last. The bytes are said in
 // specs/Area of the crate groups, what each function answers in specs/Answer.
 
+#![tactic(auto)]
+
 // The definitions of specs/Area of the crate groups: most_groups and area_size.
 pub const MOST_GROUPS: usize = 8;
 
@@ -15,13 +17,13 @@ pub use finding::find;
 pub use judging::judge;
 
 // A group was made, or why not: a number of 01's table of refusals.
-#[derive(Drop)]
+#[derive(Clone, Copy)]
 pub enum Created {
     Done,
     Refused(u32),
 }
 
-#[derive(Drop)]
+#[derive(Clone, Copy)]
 pub enum Destroyed {
     Done,
     Absent,

@@ -1,6 +1,8 @@
 // One consumer group in its region of the state, 7,220 lent bytes. The bytes are drawn in specs/Bytes, the group and its rules said
 // in specs/Group, what is read of a region in specs/Parse, what each function answers in specs/Answer.
 
+#![tactic(auto)]
+
 use id::Id;
 
 // Where the parts of a region begin and how long they are: the definitions of the same names in specs/Group and specs/Bytes.
@@ -42,28 +44,28 @@ pub use reading::{
 };
 
 // A name's place among the consumers, or the place that it would get.
-#[derive(Drop)]
+#[derive(Clone, Copy)]
 pub enum Spot {
     Known(usize),
     New(usize),
 }
 
 // The place of a name among names, consumers or groups.
-#[derive(Drop)]
+#[derive(Clone, Copy)]
 pub enum NamePlace {
     At(usize),
     Absent,
 }
 
 // A pending entry: its place, its consumer's place, its time and count.
-#[derive(Drop)]
+#[derive(Clone, Copy)]
 pub enum PendingEntry {
     Entry(usize, usize, u64, u64),
     Missing,
 }
 
 // A consumer's next entry: its ID, time and count.
-#[derive(Drop)]
+#[derive(Clone, Copy)]
 pub enum NextEntry {
     Given(Id, u64, u64),
     Nothing,

@@ -2,6 +2,8 @@
 // hold, `entries_in`, and the operations on entries (crate keys); the record and its places are this crate's own affair. The `_sound`
 // functions are for bytes that are known to hold entries: they do not validate the record again.
 
+#![tactic(auto)]
+
 mod change;
 mod look;
 

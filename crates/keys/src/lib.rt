@@ -1,12 +1,14 @@
 // Sorted entries: a finite map of up to 64 keys of 1 to 16 bytes, and its rows in a table. What an index answers is said on these entries
 // alone, in specs/.
 
+#![tactic(auto)]
+
 mod row;
 
 pub use row::{append, is_key, is_row, no_rows, rank_of, row_len, with_row, without_row};
 
 // Entries in order: n rows, the key of row i at 16 i.
-#[derive(Drop)]
+#[derive(Clone, Copy)]
 pub struct Table {
     pub n: usize,
     pub len: [u8; 64],
@@ -15,14 +17,14 @@ pub struct Table {
 }
 
 // The entries of an index, where ok says that it holds any; else no rows.
-#[derive(Drop)]
+#[derive(Clone, Copy)]
 pub struct Listed {
     pub ok: bool,
     pub table: Table,
 }
 
 // What an operation answers.
-#[derive(Drop)]
+#[derive(Clone, Copy)]
 pub enum Answer {
     Done,
     Removed(u32),
@@ -32,7 +34,7 @@ pub enum Answer {
 }
 
 // Whether a key has a neighbour.
-#[derive(Drop)]
+#[derive(Clone, Copy)]
 pub enum Outcome {
     Found,
     Nothing,
@@ -40,7 +42,7 @@ pub enum Outcome {
 }
 
 // The neighbour of a key, where one was found: the first len bytes of key, and its value; else zeros.
-#[derive(Drop)]
+#[derive(Clone, Copy)]
 pub struct Neighbour {
     pub outcome: Outcome,
     pub len: usize,

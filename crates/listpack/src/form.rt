@@ -65,7 +65,7 @@ pub fn extend(half: u64, v: u64) -> u64
 }
 
 // A form of three bytes or more: its first byte, how many follow, and half their range.
-#[derive(Drop)]
+#[derive(Clone, Copy)]
 pub struct Wide {
     pub tag: u64,
     pub w: usize,

@@ -1,5 +1,7 @@
 // The listpack encoding: strings as elements, a strict reader and a writer. What each function answers is said in specs/.
 
+#![tactic(auto)]
+
 mod cursor;
 mod form;
 mod header;
@@ -23,7 +25,7 @@ pub use value::{Number, known_number, known_stored};
 pub use write::{put_end, write_integer, write_string};
 
 // One element: an integer as its 64-bit pattern, or a text that lies at `start`, `len` bytes long; `size` is the element's.
-#[derive(Drop)]
+#[derive(Clone, Copy)]
 pub enum Element {
     Integer {
         pattern: u64,

@@ -10,7 +10,7 @@ use crate::form::{HALF_SHORT, back_size, extend};
 use crate::read::{integer_stands, is_text, text_stands, wide_value};
 
 // A number at the start of a part, and how many bytes its element takes.
-#[derive(Drop)]
+#[derive(Clone, Copy)]
 pub enum Leading {
     Numeral { pattern: u64, size: usize },
     NoNumeral,

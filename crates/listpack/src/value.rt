@@ -8,7 +8,7 @@ use crate::known::{known_integer, known_size};
 use decimal::Recognised;
 
 // An integer's pattern, and the place after it.
-#[derive(Drop)]
+#[derive(Clone, Copy)]
 pub struct Number {
     pub pattern: u64,
     pub next: usize,

@@ -5,7 +5,7 @@ ghost use Rattle.listpack.specs.Known.{ElementsAt, strings_at};
 ghost use Rattle.node_sample.specs.Sample.{index_of, asked_of};
 
 // How many names the master has, where they lie, and how many stand before the asked one: all where it is not among them.
-#[derive(Drop)]
+#[derive(Clone, Copy)]
 pub struct Asked {
     pub names: usize,
     pub fields: usize,

@@ -12,7 +12,7 @@ use decimal::Recognised;
 pub const BOUND: u64 = 1_000_000_000;
 
 // The field is lacking; something other than an integer that counts; such an integer, raised by BOUND.
-#[derive(Drop)]
+#[derive(Clone, Copy)]
 pub enum Sample {
     Lacking,
     Other,

@@ -1,6 +1,8 @@
 // Byte slices: numbers at a place, copy, fill, move, splice, compare.
 // What each answers is said in specs/: Bytes, Place, Compare.
 
+#![tactic(auto)]
+
 ghost use Rattle.std.specs.Prelude.{◌≡◌, ◌<◌};
 
 mod comparison;
@@ -12,7 +14,7 @@ pub use number::{read_be, read_le, write_be, write_le};
 pub use place::{copy_in, move_within, splice, zero};
 
 // Which of two byte strings comes first.
-#[derive(Drop)]
+#[derive(Clone, Copy)]
 pub enum Order {
     Less,
     Equal,

@@ -73,7 +73,7 @@ fn stretch_of<'a>(
 }
 
 // A key that ends at a node.
-#[derive(Drop)]
+#[derive(Clone, Copy)]
 pub struct Own {
     pub key: u8,
     pub val: u32,

@@ -1,6 +1,8 @@
 // The record of a radix index of up to 64 keys of 1 to 16 bytes: what it holds, and one made of a table. What each function answers is said
 // in specs/.
 
+#![tactic(auto)]
+
 mod construction;
 mod judge;
 
@@ -8,7 +10,7 @@ pub use construction::build;
 pub use judge::leads;
 
 // The record, drawn in specs/Record.antt.
-#[derive(Drop)]
+#[derive(Clone, Copy)]
 pub struct Index {
     pub root: u16,
     pub len: [u8; 256],
@@ -20,14 +22,14 @@ pub struct Index {
 }
 
 // The value of a key, if it is held.
-#[derive(Drop)]
+#[derive(Clone, Copy)]
 pub enum Lookup {
     Value(u32),
     Nothing,
 }
 
 // How many rows a table has after rows were gathered; or they did not fit it.
-#[derive(Drop)]
+#[derive(Clone, Copy)]
 pub enum Gathered {
     Rows(usize),
     TooMany,

@@ -1,5 +1,7 @@
 // The record of a radix index as bytes: its fields read there, and the bytes written. The bytes are drawn in specs/Bytes.
 
+#![tactic(auto)]
+
 mod place;
 mod write;
 

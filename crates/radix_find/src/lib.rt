@@ -1,5 +1,7 @@
 // The walk of a key down the tree of a record in lent bytes. It does not judge the record, and ends on any bytes.
 
+#![tactic(auto)]
+
 ghost use Rattle.std.specs.Prelude.{◌≡◌, ◌+◌, ◌<◌, ◌≤◌, length, drop};
 ghost use Rattle.octets.specs.Place.{area};
 ghost use Rattle.radix.specs.Shape.{starts_with};

@@ -1,6 +1,8 @@
 // Whether the lent bytes of a record hold entries, in one walk over its tree and one look at the rest of its pool. What it says is in
 // specs/Visit.
 
+#![tactic(auto)]
+
 ghost use Rattle.std.specs.Prelude.{◌≡◌, ◌<◌, length};
 ghost use Rattle.octets.specs.Pick.{both};
 ghost use Rattle.radix.specs.Record.{is_root, is_tidy};

@@ -1,5 +1,7 @@
 // The entries of a record in lent bytes as the rows of a table.
 
+#![tactic(auto)]
+
 ghost use Rattle.std.specs.Prelude.{◌≡◌, false, [], ◌<◌, length};
 ghost use Rattle.keys.specs.Listing.{Lists};
 ghost use Rattle.keys.specs.Table.{tabled, table_of};

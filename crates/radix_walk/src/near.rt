@@ -16,7 +16,7 @@ use octets::Order;
 use radix_bytes::LABELS_AT;
 
 // A key and its value, if there is one: len bytes, and zeros after them.
-#[derive(Drop)]
+#[derive(Clone, Copy)]
 pub struct Near {
     pub found: bool,
     pub len: usize,
@@ -25,7 +25,7 @@ pub struct Near {
 }
 
 // Where a walk goes on: a link, how many bytes of the key lead there, and how many nodes it may still go down.
-#[derive(Drop)]
+#[derive(Clone, Copy)]
 pub struct Stop {
     pub at: usize,
     pub lead: usize,

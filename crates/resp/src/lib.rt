@@ -1,6 +1,8 @@
 // Replies in RESP2 (02, CR 4): the parts of which they are written, and those that are made from a number alone. Which bytes they are is
 // said in specs/Reply.
 
+#![tactic(auto)]
+
 ghost use Rattle.std.specs.Prelude.{◌≡◌, ℕ, ◌+◌, ◌≤◌, length};
 ghost use Rattle.octets.specs.Place.{put};
 ghost use Rattle.resp.specs.Reply.{crlf, head, integer_bytes, error_bytes, is_count, is_refusal_number};
@@ -16,7 +18,7 @@ pub const INTEGER: u8 = b':';
 pub const ERROR: u8 = b'-';
 
 // How many bytes were written; or a refusal.
-#[derive(Drop)]
+#[derive(Clone, Copy)]
 pub enum Replied {
     Written(usize),
     Refused(u32),

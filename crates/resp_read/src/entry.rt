@@ -9,14 +9,14 @@ use crate::part::{bulk, head, line_end, number};
 use id::Id;
 
 // An ID, and the place after it.
-#[derive(Drop)]
+#[derive(Clone, Copy)]
 pub struct IdFound {
     pub id: Id,
     pub next: usize,
 }
 
 // What stands before the pairs of an entry.
-#[derive(Drop)]
+#[derive(Clone, Copy)]
 pub struct OpeningFound {
     pub id: Id,
     pub pairs: usize,
@@ -24,14 +24,14 @@ pub struct OpeningFound {
 }
 
 // Pairs: the size of a node of theirs alone, and of their slip.
-#[derive(Drop)]
+#[derive(Clone, Copy)]
 pub struct Sized {
     pub alone: usize,
     pub slip: usize,
     pub next: usize,
 }
 
-#[derive(Drop)]
+#[derive(Clone, Copy)]
 pub struct EntryFound {
     pub id: Id,
     pub next: usize,

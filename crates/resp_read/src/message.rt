@@ -13,7 +13,7 @@ use crate::reading::{ReplyRead, read};
 use id::Id;
 
 // A message's ID and the size of its slip; no message at that place; or a refusal.
-#[derive(Drop)]
+#[derive(Clone, Copy)]
 pub enum Picked {
     Message { id: Id, size: usize },
     Nothing,

@@ -9,7 +9,7 @@ use crate::part::head;
 use id::Id;
 
 // A range reply and how many messages it has, an integer or an error reply and its number, or none of these.
-#[derive(Drop)]
+#[derive(Clone, Copy)]
 pub enum ReplyRead {
     Range(u64),
     Integer(u64),

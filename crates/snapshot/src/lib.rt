@@ -1,1 +1,3 @@
 // Save and load. What they write and accept is said in specs/.
+
+#![tactic(auto)]

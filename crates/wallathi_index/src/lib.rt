@@ -1,6 +1,8 @@
 // The radix index by itself, for C: a record of 6,658 lent bytes, and one function for each operation. What each answers and leaves is
 // said in specs/Export.
 
+#![tactic(auto)]
+
 mod telling;
 
 ghost use Rattle.std.specs.Prelude.{◌≡◌, []};
