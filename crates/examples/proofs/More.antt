@@ -14,7 +14,7 @@ use Rattle.groups.specs.Group.{Group, Pending}
 use Rattle.stream.specs.Ledger.{Ledger, empty_ledger, with_messages, with_last, with_groups}
 use Rattle.stream.specs.Command as Command
 use Rattle.snapshot.specs.Command.{Command, on_stream, save, load, run_all, answers_all}
-use Rattle.examples.specs.Case.{Case, listpack, node, snapshot, bytes_of, read_in, Row, row, message}
+use Rattle.examples.specs.Case.{Case, node, snapshot, bytes_of, read_in, Row, row, message}
 use Rattle.node.specs.Message.{are_strings, are_pairs}
 use Rattle.slip.specs.Slip.{slip_pairs, slip, cut_string, parse_pairs, parse_slip}
 use Rattle.octets.specs.Bytes.{le, le_value, be, be_from, be_value}

@@ -4,11 +4,10 @@ use mathlib.Core.Bool.{true}
 use mathlib.Core.List.{List, [], ◌∷◌, ◌++◌, map}
 use mathlib.Core.Option.{some}
 use Prim.Native.Nat.{ℕ, ◌+◌}
-use lib.ListN.{length}
 use Rattle.id.specs.declared.Id.{Id}
 use Rattle.id.specs.Id.{id_of, least, greatest, id_order}
 use Rattle.decimal.specs.Text.{natural_text, digits_of}
-use Rattle.node.specs.Message.{Entry, live, pair, live_in}
+use Rattle.node.specs.Message.{live, pair, live_in}
 use Rattle.resp.specs.Reply.{head, bulk, id_text, bulks, opening, entry, entries, range_bytes}
 use Rattle.stream.specs.Ledger.{empty_ledger, with_last}
 use Rattle.stream.specs.Cut.{Model, model_of, node_at, entries_of}

@@ -17,7 +17,7 @@ unfoldable pub groups_in : List ℕ → List Group
 groups_in s = or_none (parse_regions most_groups s)
 
 -- a sound area has the bytes of the groups that are read of it, and they keep the rules; no pending ID is above the greatest ID, so the
--- rule on the last ID says nothing here. An area that is read with any last ID is sound (proofs/Laws: parsed-area)
+-- rule on the last ID says nothing here. An area that is read with any last ID is sound (proofs/Laws: parsed_area)
 pub record SoundArea (s : List ℕ) : Type 0 where
   pub laid : s ≡ area_bytes (groups_in s)
   pub rules_kept : is_groups greatest (groups_in s) ≡ true

@@ -10,7 +10,6 @@ use lib.ListN.{length, take, drop, length-append, take-append-drop}
 use lib.Seq.{take_at, drop_at, take_all, length-take-le}
 use borrow.Author.Tests.{leb-true, le-leb, eqb-true, eq-eqb}
 use Rattle.octets.specs.Pick.{both}
-use Rattle.octets.specs.Maybe.{◌>>=◌, ◌>>◌}
 use Rattle.octets.specs.Bytes.{Bytes, le, le_value}
 use Rattle.octets.specs.Place.{Taken, take_bytes}
 use Rattle.octets.proofs.Laws.{both_true, bytes_take, bytes_drop, bytes_tail, length_le, value_le, le_value_lem, both_of, needed, answered}

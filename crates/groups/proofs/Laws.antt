@@ -3,12 +3,12 @@
 --   Bodies     the same of a body in a snapshot
 --   Verdicts   what a sound region is
 --   Rules      the rules of a group, one by one
---   Kept       what happens to a group keeps its rules; in each group a pending ID has one consumer (one-consumer)
+--   Kept       what happens to a group keeps its rules; in each group a pending ID has one consumer (one_consumer)
 --   Groups     the rules of all groups, one by one
---   Areas      an area is read as groups exactly when it has their bytes and they keep the rules (area-parse, area-bytes)
+--   Areas      an area is read as groups exactly when it has their bytes and they keep the rules (area_parse, area_bytes_lem)
 --   Listed     the groups by rising name: the place of one, one put in or taken out
---   Finding    the group that is found, put back, taken out; the rules with a later last ID (groups-later)
---   Steps      each step: its name, where it changes nothing, the rules of all groups (deliver-groups ..)
+--   Finding    the group that is found, put back, taken out; the rules with a later last ID (groups_later)
+--   Steps      each step: its name, where it changes nothing, the rules of all groups (deliver_groups ..)
 --   Batches    IDs delivered one after the other (deliver_all): the group's rules, its name, the rules of all groups
 --   Names, Fields, Entries, Parts, Turns    names and entries in a region and in a body, written and read
 --   Pendings, Consumers, Spots, Searched    sorted lists: one put in, taken out, found

@@ -1,5 +1,5 @@
 -- Strict reading of a group's region and of its body in a snapshot: the group, or none. It is some group exactly when the bytes
--- are that group's and it keeps the rules (proofs/Laws: region-parse, region-bytes, body-parse, body-bytes). Each reading is a test
+-- are that group's and it keeps the rules (proofs/Laws: region_parse, region_bytes_lem, body_parse, body_bytes_lem). Each reading is a test
 -- of the bytes, in the code's order, and what is read of them. Assumes nothing.
 use Rattle.std.specs.Prelude.{Bool, true, List, [], ◌∷◌, ℕ, zero, suc, ◌+◌, ◌-◌, ◌*◌, leb, ltb, eqb, length, drop, get_or}
 use Rattle.std.proofs.Math.Option.{Option, some, none}

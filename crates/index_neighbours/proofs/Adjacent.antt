@@ -6,7 +6,7 @@ use mathlib.Core.Option.{Option, some, none}
 use Prim.Native.Nat.{ℕ, ◌<◌}
 use lib.ListN.{get_or}
 use Rattle.keys.specs.Entries.{Entry, is_key, first_from, last_up_to}
-use Rattle.keys.specs.Operation.{first_at_or_above, last_at_or_below, entry_reply, refused, found, reply_in}
+use Rattle.keys.specs.Operation.{first_at_or_above, last_at_or_below, entry_reply, refused, reply_in}
 use Rattle.radix.specs.declared.Index.{Index}
 use Rattle.radix.specs.Shape.{Shape}
 use Rattle.radix.specs.Walk.{first_in, last_in}

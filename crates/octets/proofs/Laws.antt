@@ -7,7 +7,7 @@
 --   Areas     area: length, parts, of appends, of puts
 --   Splices   spliced: its parts
 --   Tested    all_zero, same
---   Ordered   orderOf
+--   Ordered   order_of
 pub use Rattle.octets.proofs.Picks.{pick_by, pick_lt, pick_le, pick_eq, by_lower}
 pub use Rattle.octets.proofs.Stages.{needed, answered, some_is, none_mapped, none_is, needed_some}
 pub use Rattle.octets.proofs.Byte.{bytes_nil, bytes_cons, bytes_head, bytes_tail, bytes_take, bytes_drop, bytes_append, bytes_set, bytes_zeros, bytes_area, bytes_put, bytes_le, bytes_be, are_bytes_lem, bytes_are}

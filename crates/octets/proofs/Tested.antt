@@ -1,4 +1,4 @@
--- Laws of the tests and the order: all_zero, same, orderOf. Assumes nothing.
+-- Laws of the tests and the order: all_zero, same, order_of. Assumes nothing.
 use mathlib.Core.Path.{◌≡◌, refl, sym, ap, ap₂, ◌∙◌}
 use mathlib.Core.Bool.{Bool, true, false}
 use mathlib.Core.List.{List, [], ◌∷◌}

@@ -11,7 +11,6 @@ use lib.Dec.{leb, ltb, eqb}
 use lib.ListN.{length, get_or, set, length-append, length-set}
 use lib.Seq.{get_or-set_same, get_or-set_other}
 use Rattle.octets.specs.Pick.{pick, both}
-use Rattle.octets.specs.Maybe.{◌>>◌, ◌>>=◌}
 use Rattle.octets.proofs.Laws.{both_true, both_of, needed, answered, some_is, length_area}
 use Rattle.keys.specs.Entries.{Entry, entry, length_of}
 use Rattle.radix.specs.Shape.{Shape, nil, node, first_byte}

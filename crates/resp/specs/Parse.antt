@@ -1,6 +1,6 @@
 -- The strict reader, from the left: each part is what was got and the bytes after it, or none. That it accepts exactly what is written is
--- the law of proofs/Laws (reply-here, reply-is). Assumes nothing.
-use Rattle.std.specs.Prelude.{Bool, List, [], ◌∷◌, ℕ, zero, suc, ◌+◌, ◌-◌, ◌*◌, ◌/◌, ◌^◌, leb, ltb, eqb, length, take, drop, get_or}
+-- the law of proofs/Laws (reply_here, reply_is). Assumes nothing.
+use Rattle.std.specs.Prelude.{List, [], ◌∷◌, ℕ, zero, suc, ◌+◌, ◌-◌, ◌*◌, ◌/◌, ◌^◌, leb, ltb, eqb, length, take, drop, get_or}
 use Rattle.std.proofs.Math.Option.{Option, some, none}
 use Rattle.octets.specs.Pick.{pick, both}
 use Rattle.octets.specs.Maybe.{◌>>=◌, ◌>>◌, need}

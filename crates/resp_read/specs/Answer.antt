@@ -1,6 +1,6 @@
 -- What the functions that read replies answer, by what the parser gives from a place on: numbers and sizes, and the place after what was
 -- got, 0 for none. Assumes nothing.
-use Rattle.std.specs.Prelude.{List, [], ◌∷◌, ℕ, ◌+◌, ◌-◌, leb, length, drop}
+use Rattle.std.specs.Prelude.{List, [], ℕ, ◌+◌, ◌-◌, leb, length, drop}
 use Rattle.std.proofs.Math.Option.{Option, some, none}
 use Rattle.octets.specs.Pick.{pick}
 use Rattle.octets.specs.Maybe.{◌>>=◌}

@@ -1,4 +1,4 @@
--- The structural test accepts exactly the snapshots, and finds their ledgers: judge-is. Assumes nothing.
+-- The structural test accepts exactly the snapshots, and finds their ledgers: judge_is. Assumes nothing.
 use mathlib.Core.Path.{◌≡◌, refl, sym, ap, ap₂, ◌∙◌, subst}
 use mathlib.Core.Bool.{Bool, true, false}
 use mathlib.Core.List.{List, [], ◌∷◌, ◌++◌, map}

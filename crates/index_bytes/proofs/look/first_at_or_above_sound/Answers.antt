@@ -1,0 +1,16 @@
+-- `first_at_or_above_sound` meets its contract. Assumes nothing.
+use mathlib.Core.List.{List}
+use mathlib.Core.Option.{Option}
+use mathlib.Core.Path.{sym, ap, ◌∙◌, subst}
+use Rattle.keys.specs.Entries.{Entry}
+use Rattle.keys.specs.Operation.{first_at_or_above, reply_in}
+use Rattle.keys.specs.Answer.{neighbour_of}
+use Rattle.keys.specs.Listing.{IsSound}
+use Rattle.index_bytes.specs.Held.{entries_in_lem}
+use Rattle.index_bytes.proofs.look.first_at_or_above_sound.Goals as goal
+
+pub first_at_or_above_sound-requires : goal.first_at_or_above_sound-requires
+first_at_or_above_sound-requires c = (c.requires.0, subst IsSound (entries_in_lem c.args.bytes.now) c.requires.1)
+
+pub returns : goal.returns
+returns c = let a = c.args in c.first_at_or_above_sound.ensures ∙ ap (λ (o : Option (List Entry)). neighbour_of (reply_in (first_at_or_above a.key.now) o)) (sym (entries_in_lem a.bytes.now))

@@ -1,0 +1,7 @@
+-- Assumes nothing.
+use native.Mathlib.Omega.{arith}
+use Rattle.octets.proofs.Laws.{set_put}
+use Rattle.listpack.proofs.write.put_end.Goals as goal
+
+pub returns : goal.returns
+returns c = set_put _ _ _ (omega arith)

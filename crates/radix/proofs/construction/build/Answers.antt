@@ -1,0 +1,41 @@
+-- `build` meets its contract: its rows are laid from place 1 on, and the root at place 0 leads to them. Assumes nothing.
+use mathlib.Core.Path.{ap, ◌∙◌}
+use Prim.Native.Nat.{ℕ, ◌<◌, ◌≤◌}
+use native.Mathlib.Omega.{arith}
+use borrow.Author.Rules.{rules}
+use lib.Dec.{eqb}
+use lib.ListN.{length, length-replicate}
+use Rattle.octets.specs.Pick.{pick}
+use Rattle.radix.specs.Shape.{nodes}
+use Rattle.radix.specs.Record.{Nodes, lent}
+use Rattle.keys.specs.Table.{columns, rows_from}
+use Rattle.radix.specs.Layout.{laid, blank}
+use Rattle.radix.proofs.Growing.{link_small}
+use Rattle.radix.proofs.Built.{nodes_most, shape_rows, ready_all, built}
+use Rattle.radix.proofs.construction.build.Goals as goal
+use Rattle.radix.proofs.construction.build.Goals.{After-link_over}
+
+few : (c : After-link_over) → c.grow-end.result ≤ 256
+few c =
+    let t = c.args.t in
+    let table = columns t.len t.val t.key in
+    omega (arith, c.grow-end.ensures.0, ap nodes (shape_rows table t.n c.requires.0), nodes_most (rows_from table 0 t.n) c.requires.0)
+
+pub grow-end-requires : goal.grow-end-requires
+unfolding blank
+grow-end-requires c =
+    let t = c.args.t in
+    ready_all (columns t.len t.val t.key) t.n c.requires.0 c.args.label.now (search rules) (ap (λ (x : Nodes). length x.label) c.requires.1 ∙ length-replicate {A = ℕ} 4096 0)
+
+pub overflow_cast-child : goal.overflow_cast-child
+overflow_cast-child c =
+    let h : pick (eqb 1 c.grow-end.result) 0 c.grow-end.result < 65536 = link_small 1 c.grow-end.result (few (goal.at.overflow_cast-child c).After-link_over) in
+    omega (arith, c.link_over.ensures)
+
+pub returns : goal.returns
+returns c =
+    let t = c.args.t in
+    let table = columns t.len t.val t.key in
+    built (rows_from table 0 t.n) _ c.grow-end.result c.link_over.result
+    (lent c.grow-end.new.len c.grow-end.new.key c.grow-end.new.child c.grow-end.new.next c.grow-end.new.val c.grow-end.new.label)
+    (shape_rows table t.n c.requires.0) c.grow-end.ensures.0 (c.grow-end.ensures.1 ∙ ap (laid _ 1) c.requires.1) c.link_over.ensures

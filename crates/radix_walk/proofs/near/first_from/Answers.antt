@@ -1,0 +1,9 @@
+-- `first_from` meets its contract: the first key from where the walk stops. Assumes nothing.
+use mathlib.Core.Path.{ap, ◌∙◌}
+use mathlib.Core.Option.{Option}
+use Rattle.keys.specs.Entries.{Entry}
+use Rattle.radix_walk.specs.Neighbours.{near_of, cut_key}
+use Rattle.radix_walk.proofs.near.first_from.Goals as goal
+
+pub returns : goal.returns
+returns c = c.least.ensures ∙ ap (λ (o : Option Entry). near_of (cut_key o)) c.stop_above-stop.ensures.least
