@@ -15,10 +15,10 @@ all: $(archives) $(pages) $(packages) $(binaries)
 
 # The proofs run first.
 target/staticlib/lib%.a:
-	rt staticlib $*
+	host/archive $*
 
 target/bin/%:
-	rt check $*
+	host/archive program $*
 
 # Plain C beside the proved libraries.
 target/staticlib/libwallathi_text.a: host/text/wallathi_text.c $(libraries:%=host/include/%.h)

@@ -1,4 +1,4 @@
-//! Links the archives of the crates bench and bench_* from the folder WALLATHI_LIB, by default the one that `rt staticlib` writes to.
+//! Links the archives of the crates bench and bench_* from the folder WALLATHI_LIB, by default the one that `host/archive` writes to.
 
 use std::env;
 use std::path::PathBuf;

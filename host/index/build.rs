@@ -1,4 +1,4 @@
-//! Links libwallathi_index.a from the folder WALLATHI_LIB, by default the one that `rt staticlib` writes to.
+//! Links libwallathi_index.a from the folder WALLATHI_LIB, by default the one that `host/archive` writes to.
 
 use std::env;
 use std::path::PathBuf;
@@ -14,7 +14,7 @@ fn main() {
     println!("cargo:rerun-if-changed={}", archive.display());
     assert!(
         archive.is_file(),
-        "{} is missing: run `rt staticlib wallathi_index` at the top of the repository, or set WALLATHI_LIB to its folder",
+        "{} is missing: run `host/archive wallathi_index` at the top of the repository, or set WALLATHI_LIB to its folder",
         archive.display()
     );
     println!("cargo:rustc-link-search=native={}", folder.display());

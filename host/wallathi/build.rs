@@ -1,4 +1,4 @@
-//! Links libwallathi.a from the folder WALLATHI_LIB, by default the one that `rt staticlib` writes to.
+//! Links libwallathi.a from the folder WALLATHI_LIB, by default the one that `host/archive` writes to.
 
 use std::env;
 use std::path::PathBuf;
@@ -10,7 +10,7 @@ fn main() {
     println!("cargo:rerun-if-env-changed=WALLATHI_LIB");
     println!("cargo:rerun-if-changed={}", archive.display());
     let advice =
-        "run `rt staticlib wallathi` at the top of the repository, or set WALLATHI_LIB to its folder";
+        "run `host/archive wallathi` at the top of the repository, or set WALLATHI_LIB to its folder";
     assert!(archive.is_file(), "{} is missing: {advice}", archive.display());
     println!("cargo:rustc-link-search=native={}", folder.display());
     println!("cargo:rustc-link-lib=static=wallathi");
