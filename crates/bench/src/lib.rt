@@ -28,10 +28,7 @@ fn is_listpack(s: &[u8]) -> bool
 pub extern "C" fn wallathi_bench_check(s: &[u8]) -> u32
     ensures { result ≡ pick (holds_strings s.now) 1 0 }
 {
-    if is_listpack(s) {
-        return 1;
-    }
-    0
+    u32::from(is_listpack(s))
 }
 
 // The end byte at `at`, where the elements end, and the header. The answer is the listpack's size.
@@ -54,17 +51,15 @@ pub extern "C" fn wallathi_bench_write_integers(d: &mut [u8], first: u64, step: 
         return 0;
     }
     let mut at = 6;
-    let mut count: u64 = 0;
     let mut p = first;
-    while count < MOST {
+    for count in 0..MOST {
         if d.len() - at <= listpack::integer_size(p) {
             return close(d, at, count);
         }
         at = listpack::write_integer(d, at, p);
-        p = std::num::wrapping_add_u64(p, step);
-        count += 1;
+        p = p.wrapping_add(step);
     }
-    close(d, at, count)
+    close(d, at, MOST)
 }
 
 // A listpack of as many copies of the text as fit. The answer is its size, or 0 where no listpack fits or the text has no element.
@@ -80,13 +75,11 @@ pub extern "C" fn wallathi_bench_write_texts(d: &mut [u8], text: &[u8]) -> u64
     }
     let size = listpack::element_size(text);
     let mut at = 6;
-    let mut count: u64 = 0;
-    while count < MOST {
+    for count in 0..MOST {
         if d.len() - at <= size {
             return close(d, at, count);
         }
         at = listpack::write_string(d, at, text);
-        count += 1;
     }
-    close(d, at, count)
+    close(d, at, MOST)
 }

@@ -1,14 +1,12 @@
 -- What a string is, in C's numbers. Assumes nothing.
-use Rattle.std.specs.Prelude.{ℕ}
-use Rattle.decimal.specs.declared.Recognised.{Recognised}
-use Rattle.decimal.specs.declared.Recognised.TheVariants.{Integer, Other}
+use Rattle.std.specs.Prelude.{ℕ, Option, Some, None}
 
 -- 1 for an integer
-abbrev pub code_of : Recognised → ℕ
-code_of (Integer p) = 1
-code_of Other = 0
+abbrev pub code_of : Option ℕ → ℕ
+code_of (Some p) = 1
+code_of None = 0
 
 -- what the out-parameter then holds: the pattern, or what it held
-abbrev pub over : Recognised → ℕ → ℕ
-over (Integer p) held = p
-over Other held = held
+abbrev pub over : Option ℕ → ℕ → ℕ
+over (Some p) held = p
+over None held = held

@@ -2,14 +2,14 @@
 use mathlib.Core.Path.{◌≡◌, refl}
 use mathlib.Core.Bool.{Bool, true, false, not}
 use mathlib.Core.List.{List}
-use mathlib.Core.Option.{Option}
 use Prim.Native.Nat.{ℕ, ◌+◌, ◌≤◌, ◌<◌}
 use lib.Dec.{leb}
 use lib.ListN.{length}
+use Rattle.refusal.specs.declared.Refusal.{Refusal}
 use Rattle.octets.specs.Pick.{pick, both}
 use borrow.Author.Tests.{le-leb, lt-leb, leb-true, ne_eqb}
 use Rattle.octets.specs.Bytes.{Bytes}
-use Rattle.octets.specs.Maybe.{is_none}
+use Rattle.std.proofs.Common.{is_none, Option}
 use Rattle.octets.proofs.Laws.{both_true}
 use Rattle.id.specs.declared.Id.{Id}
 use Rattle.id.specs.Id.{greatest, below}
@@ -23,7 +23,7 @@ use Rattle.groups.proofs.Laws.{parse_sound}
 use Rattle.groups_change.specs.Change.{refusal_to_deliver, unless_refused, found_count, refusal_to_claim, claim_moves, claimed_as}
 use Rattle.group_area.specs.Answer.{groups_in, SoundArea, refusal_to_create, created_bytes, refusal_to_destroy, destroyed_bytes}
 use Rattle.group_area.proofs.Laws.{judged_area}
-use Rattle.bench_groups.specs.Answer.{After, sound_in, is_short, number_of, delivers, acknowledges, claim_number, claims, drops, area_sound, creates, destroys}
+use Rattle.bench_groups.specs.Answer.{After, sound_in, is_short, number_or_0, delivers, acknowledges, claim_number, claims, drops, area_sound, creates, destroys}
 
 pub region_sound : (s : List ℕ) → Bytes s → sound_in s ≡ true → SoundRegion s
 unfolding sound_in parse_region
@@ -77,8 +77,8 @@ module _ (c : List ℕ) (t : ℕ) (i : Id) (s : List ℕ) where
       unfolding delivers
       deliver_old b = (rw (e, f, b), rw (e, f, b))
 
-      pub deliver_by : below (group_in s).delivered i ≡ true → (d : Option ℕ) → d ≡ refusal_to_deliver c (group_in s)
-          → Is (delivers c t i s) (number_of d) (unless_refused d s (region_bytes (step.deliver c t i (group_in s))))
+      pub deliver_by : below (group_in s).delivered i ≡ true → (d : Option Refusal) → d ≡ refusal_to_deliver c (group_in s)
+          → Is (delivers c t i s) (number_or_0 d) (unless_refused d s (region_bytes (step.deliver c t i (group_in s))))
       unfolding delivers
       deliver_by b d q = (rw (e, f, b, q), rw (e, f, b, q))
 
@@ -101,7 +101,7 @@ module _ (c : List ℕ) (least : ℕ) (i : Id) (t : ℕ) (s : List ℕ) where
     unfolding claims
     claim_name f = (rw (e, f), rw (e, f))
 
-    pub claim_by : is_short c ≡ true → (d : Option ℕ) (b : Bool) → d ≡ refusal_to_claim c least i t (group_in s) → b ≡ claim_moves c least i t (group_in s)
+    pub claim_by : is_short c ≡ true → (d : Option Refusal) (b : Bool) → d ≡ refusal_to_claim c least i t (group_in s) → b ≡ claim_moves c least i t (group_in s)
         → Is (claims c least i t s) (claim_number d b) (pick b (region_bytes (claimed_as c t (group_in s) (step.find_pending i (group_in s).pending))) s)
     unfolding claims
     claim_by f d b q m = (rw (e, f, q, m), rw (e, f, m))
@@ -125,7 +125,7 @@ module _ (n : List ℕ) (start : Id) (s : List ℕ) where
     unfolding creates
     create_name f = (rw (e, f), rw (e, f))
 
-    pub create_by : is_short n ≡ true → (d : Option ℕ) → d ≡ refusal_to_create n (groups_in s) → Is (creates n start s) (number_of d) (created_bytes d n start s)
+    pub create_by : is_short n ≡ true → (d : Option Refusal) → d ≡ refusal_to_create n (groups_in s) → Is (creates n start s) (number_or_0 d) (created_bytes d n start s)
     unfolding creates
     create_by f d q = (rw (e, f, q), rw (e, f, q))
 
@@ -134,6 +134,6 @@ module _ (n s : List ℕ) where
   unfolding destroys
   destroy_bad e = (rw e, rw e)
 
-  pub destroy_by : area_sound s ≡ true → (d : Option ℕ) → d ≡ refusal_to_destroy n (groups_in s) → Is (destroys n s) (number_of d) (destroyed_bytes d n s)
+  pub destroy_by : area_sound s ≡ true → (d : Option Refusal) → d ≡ refusal_to_destroy n (groups_in s) → Is (destroys n s) (number_or_0 d) (destroyed_bytes d n s)
   unfolding destroys
   destroy_by e d q = (rw (e, q), rw (e, q))

@@ -1,8 +1,8 @@
 -- What each function answers to C, and the bytes that it leaves. Assumes nothing.
-use Rattle.std.specs.Prelude.{Bool, true, false, not, List, ℕ, ◌+◌, leb, length}
-use Rattle.std.proofs.Math.Option.{Option, some, none}
+use Rattle.std.specs.Prelude.{Bool, true, false, not, List, ℕ, ◌+◌, leb, length, is_none, Option, Some, None}
+use Rattle.refusal.specs.declared.Refusal.{Refusal}
+use Rattle.refusal.specs.Number.{number_of}
 use Rattle.octets.specs.Pick.{pick, both}
-use Rattle.octets.specs.Maybe.{is_none}
 use Rattle.id.specs.declared.Id.{Id}
 use Rattle.id.specs.Id.{greatest, below}
 use Rattle.groups.specs.Group.{longest_name, pending_up_to}
@@ -32,16 +32,16 @@ unfoldable pub is_short : List ℕ → Bool
 is_short n = both (leb 1 (length n)) (leb (length n) longest_name)
 
 -- a refusal's number, or 0
-abbrev pub number_of : Option ℕ → ℕ
-number_of none = 0
-number_of (some n) = n
+abbrev pub number_or_0 : Option Refusal → ℕ
+number_or_0 None = 0
+number_or_0 (Some r) = number_of r
 
 unfoldable pub delivers : List ℕ → ℕ → Id → List ℕ → After
 delivers c now i s =
     pick (sound_in s)
     (pick (is_short c)
     (pick (below (group_in s).delivered i)
-    (after (number_of (refusal_to_deliver c (group_in s))) (unless_refused (refusal_to_deliver c (group_in s)) s (region_bytes (step.deliver c now i (group_in s)))))
+    (after (number_or_0 (refusal_to_deliver c (group_in s))) (unless_refused (refusal_to_deliver c (group_in s)) s (region_bytes (step.deliver c now i (group_in s)))))
     (after 4 s))
     (after 3 s))
     (after 2 s)
@@ -51,10 +51,10 @@ acknowledges i s =
     pick (sound_in s) (after (found_count (step.find_pending i (group_in s).pending)) (region_bytes (step.acknowledge i (group_in s)))) (after 2 s)
 
 -- 34, not moved
-abbrev pub claim_number : Option ℕ → Bool → ℕ
-claim_number (some n) moves = n
-claim_number none true = 0
-claim_number none false = 34
+abbrev pub claim_number : Option Refusal → Bool → ℕ
+claim_number (Some r) moves = number_of r
+claim_number None true = 0
+claim_number None false = 34
 
 unfoldable pub claims : List ℕ → ℕ → Id → ℕ → List ℕ → After
 claims c least i now s =
@@ -75,9 +75,9 @@ area_sound s = not (is_none (parse_area greatest s))
 unfoldable pub creates : List ℕ → Id → List ℕ → After
 creates n start s =
     pick (area_sound s)
-    (pick (is_short n) (after (number_of (refusal_to_create n (groups_in s))) (created_bytes (refusal_to_create n (groups_in s)) n start s)) (after 3 s))
+    (pick (is_short n) (after (number_or_0 (refusal_to_create n (groups_in s))) (created_bytes (refusal_to_create n (groups_in s)) n start s)) (after 3 s))
     (after 2 s)
 
 unfoldable pub destroys : List ℕ → List ℕ → After
 destroys n s =
-    pick (area_sound s) (after (number_of (refusal_to_destroy n (groups_in s))) (destroyed_bytes (refusal_to_destroy n (groups_in s)) n s)) (after 2 s)
+    pick (area_sound s) (after (number_or_0 (refusal_to_destroy n (groups_in s))) (destroyed_bytes (refusal_to_destroy n (groups_in s)) n s)) (after 2 s)

@@ -3,14 +3,11 @@
 
 #![tactic(auto)]
 
-ghost use Rattle.std.specs.Prelude.{◌≡◌, not};
-ghost use Rattle.octets.specs.Maybe.{is_none};
+ghost use Rattle.std.specs.Prelude.{◌≡◌, not, is_none};
 ghost use Rattle.id.specs.Id.{id_of};
 ghost use Rattle.groups.specs.Area.{parse_area};
 ghost use Rattle.bench_groups.specs.Answer.{as_number, sound_in, is_short, delivers, acknowledges, claims, drops, creates, destroys};
 
-use group_area::{Created, Destroyed};
-use groups_change::{Claimed, Delivery};
 use id::Id;
 
 fn is_sound(region: &[u8]) -> bool
@@ -66,8 +63,8 @@ pub extern "C" fn wallathi_bench_deliver(
         return 4;
     }
     match groups_change::deliver(region, consumer, time, id) {
-        Delivery::Done => 0,
-        Delivery::Refused(n) => n,
+        Ok(()) => 0,
+        Err(refusal) => refusal.number(),
     }
 }
 
@@ -101,9 +98,9 @@ pub extern "C" fn wallathi_bench_claim(
         return 3;
     }
     match groups_change::claim(region, consumer, least, Id { ms, seq }, time) {
-        Claimed::Moved => 0,
-        Claimed::NotMoved => 34,
-        Claimed::Refused(n) => n,
+        Ok(true) => 0,
+        Ok(false) => 34,
+        Err(refusal) => refusal.number(),
     }
 }
 
@@ -131,8 +128,8 @@ pub extern "C" fn wallathi_bench_create(area: &mut [u8], name: &[u8], ms: u64, s
         return 3;
     }
     match group_area::create(area, name, Id { ms, seq }) {
-        Created::Done => 0,
-        Created::Refused(n) => n,
+        Ok(()) => 0,
+        Err(refusal) => refusal.number(),
     }
 }
 
@@ -145,7 +142,7 @@ pub extern "C" fn wallathi_bench_destroy(area: &mut [u8], name: &[u8]) -> u32
         return 2;
     }
     match group_area::destroy(area, name) {
-        Destroyed::Done => 0,
-        Destroyed::Absent => 9,
+        Ok(()) => 0,
+        Err(refusal) => refusal.number(),
     }
 }

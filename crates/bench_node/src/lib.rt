@@ -8,20 +8,11 @@ ghost use Rattle.bench_node.specs.Answer.{as_number};
 ghost use Rattle.bench_node.specs.Node.{live_of, is_sound, finds, appends, appended, deletes, deleted, read_length, read_output, field_length, field_output};
 
 use id::Id;
-use node::Judged;
-use node_read::{Field, Held, Reading};
 
 fn is_sound(slot: &[u8], key: Id) -> bool
     ensures { result ≡ is_sound key slot.now }
 {
-    match node::judge(slot, key, Id::LEAST, Id::GREATEST) {
-        Judged::Sound {
-            live: _,
-            deleted: _,
-            last: _,
-        } => true,
-        Judged::Bad => false,
-    }
+    node::judge(slot, key, Id::LEAST, Id::GREATEST).is_some()
 }
 
 // How many messages are live; 0 in a slot that is not in order.
@@ -29,19 +20,9 @@ fn live_of(slot: &[u8], key: Id) -> usize
     ensures { result ≡ live_of key slot.now }
 {
     match node::judge(slot, key, Id::LEAST, Id::GREATEST) {
-        Judged::Sound {
-            live,
-            deleted: _,
-            last: _,
-        } => live,
-        Judged::Bad => 0,
+        Some(j) => j.live,
+        None => 0,
     }
-}
-
-fn as_number(t: bool) -> u32
-    ensures { result ≡ as_number t }
-{
-    if t { 1 } else { 0 }
 }
 
 // 1 where the slot holds a node with this key, and 0 where it does not.
@@ -49,7 +30,7 @@ fn as_number(t: bool) -> u32
 pub extern "C" fn wallathi_bench_judge(slot: &[u8], ms: u64, seq: u64) -> u32
     ensures { result ≡ as_number (is_sound (id_of ms seq) slot.now) }
 {
-    as_number(is_sound(slot, Id { ms, seq }))
+    u32::from(is_sound(slot, Id { ms, seq }))
 }
 
 // 1 where the message is live in the slot.
@@ -70,7 +51,7 @@ pub extern "C" fn wallathi_bench_find(
     if !is_sound(slot, key) {
         return 0;
     }
-    as_number(node_read::find_live(slot, key, Id { ms, seq }))
+    u32::from(node_read::find_live(slot, key, Id { ms, seq }))
 }
 
 // 1 where the message of the slip was appended; otherwise nothing is changed.
@@ -121,7 +102,7 @@ pub extern "C" fn wallathi_bench_delete(
     if live_of(slot, key) < 2 {
         return 0;
     }
-    as_number(node_delete::delete(slot, key, Id { ms, seq }))
+    u32::from(node_delete::delete(slot, key, Id { ms, seq }))
 }
 
 // The length of the message's slip, which starts the output then; 0 where it is not live or does not fit.
@@ -144,9 +125,8 @@ pub extern "C" fn wallathi_bench_read(
         return 0;
     }
     match node_read::read_message(slot, key, Id { ms, seq }, out) {
-        Reading::Length(n) => n as u64,
-        Reading::Short => 0,
-        Reading::Missing => 0,
+        Ok(n) => n as u64,
+        Err(_) => 0,
     }
 }
 
@@ -170,15 +150,15 @@ pub extern "C" fn wallathi_bench_field(
     if !is_sound(slot, key) {
         return 0;
     }
-    let Held::Pairs(q) = node_read::find_pairs(slot, key, Id { ms, seq }) else {
+    let Some(q) = node_read::find_pairs(slot, key, Id { ms, seq }) else {
         return 0;
     };
-    let Field::At { at, len } = node_read::find_field(slot, q, name) else {
+    let Some(v) = node_read::find_field(slot, q, name) else {
         return 0;
     };
-    if out.len() < len {
+    if out.len() < v.len {
         return 0;
     }
-    node_read::write_value(slot, at, out);
-    len as u64
+    node_read::write_value(slot, v.at, out);
+    v.len as u64
 }

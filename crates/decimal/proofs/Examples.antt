@@ -1,10 +1,10 @@
 -- Strings and the patterns of the integers that they are, computed. Assumes nothing.
 use mathlib.Core.Path.{◌≡◌, refl}
 use mathlib.Core.List.{List, [], ◌∷◌, map}
-use mathlib.Core.Option.{Option, some, none}
+use Rattle.std.proofs.Common.{Option, Some, None}
 use Prim.Native.Nat.{ℕ, ◌-◌, ◌^◌}
 use Rattle.octets.specs.Compare.{same}
-use Rattle.decimal.specs.Integer.{pattern_of, signed_of, negative_of, unsigned_of, positive_of, digits_after, recognised_by}
+use Rattle.decimal.specs.Integer.{pattern_of, signed_of, negative_of, unsigned_of, positive_of, digits_after}
 use Rattle.decimal.specs.Steps.{grown, after, signed, so_far}
 use Rattle.decimal.specs.declared.recognition.Prefix.TheVariants.{Empty}
 use Rattle.decimal.specs.Text.{text_of, natural_text, digits_of}
@@ -23,35 +23,35 @@ largest_but end = 57 ∷ 50 ∷ 50 ∷ 51 ∷ 51 ∷ 55 ∷ 50 ∷ 48 ∷ 51 ∷
 table : List Row
 table =
     -- "0", "127", "-1", "-4096", 9223372036854775807, -9223372036854775808
-    row (48 ∷ []) (some 0)
-    ∷ row (49 ∷ 50 ∷ 55 ∷ []) (some 127)
-    ∷ row (45 ∷ 49 ∷ []) (some (2 ^ 64 - 1))
-    ∷ row (45 ∷ 52 ∷ 48 ∷ 57 ∷ 54 ∷ []) (some (2 ^ 64 - 4096))
-    ∷ row (largest_but (55 ∷ [])) (some (2 ^ 63 - 1))
-    ∷ row (45 ∷ largest_but (56 ∷ [])) (some (2 ^ 63))
+    row (48 ∷ []) (Some 0)
+    ∷ row (49 ∷ 50 ∷ 55 ∷ []) (Some 127)
+    ∷ row (45 ∷ 49 ∷ []) (Some (2 ^ 64 - 1))
+    ∷ row (45 ∷ 52 ∷ 48 ∷ 57 ∷ 54 ∷ []) (Some (2 ^ 64 - 4096))
+    ∷ row (largest_but (55 ∷ [])) (Some (2 ^ 63 - 1))
+    ∷ row (45 ∷ largest_but (56 ∷ [])) (Some (2 ^ 63))
     -- no integers: "", "-", "-0", "007", "+1", "1a", 9223372036854775808, -9223372036854775809
-    ∷ row [] none
-    ∷ row (45 ∷ []) none
-    ∷ row (45 ∷ 48 ∷ []) none
-    ∷ row (48 ∷ 48 ∷ 55 ∷ []) none
-    ∷ row (43 ∷ 49 ∷ []) none
-    ∷ row (49 ∷ 97 ∷ []) none
-    ∷ row (largest_but (56 ∷ [])) none
-    ∷ row (45 ∷ largest_but (57 ∷ [])) none
+    ∷ row [] None
+    ∷ row (45 ∷ []) None
+    ∷ row (45 ∷ 48 ∷ []) None
+    ∷ row (48 ∷ 48 ∷ 55 ∷ []) None
+    ∷ row (43 ∷ 49 ∷ []) None
+    ∷ row (49 ∷ 97 ∷ []) None
+    ∷ row (largest_but (56 ∷ [])) None
+    ∷ row (45 ∷ largest_but (57 ∷ [])) None
     ∷ []
 
 read : map (λ (r : Row). pattern_of r.string) table ≡ map (λ (r : Row). r.pattern) table
 unfolding table pattern_of signed_of negative_of unsigned_of positive_of digits_after same
 read = refl
 
-stepwise : map (λ (r : Row). so_far (after Empty r.string)) table ≡ map (λ (r : Row). recognised_by r.pattern) table
+stepwise : map (λ (r : Row). so_far (after Empty r.string)) table ≡ map (λ (r : Row). r.pattern) table
 unfolding table after grown signed
 stepwise = refl
 
 -- the text of the pattern, where there is one
 abbrev text_back : List ℕ → Option ℕ → List ℕ
-text_back s none = s
-text_back s (some p) = text_of p
+text_back s None = s
+text_back s (Some p) = text_of p
 
 written : map (λ (r : Row). text_back r.string r.pattern) table ≡ map (λ (r : Row). r.string) table
 unfolding table text_of natural_text digits_of

@@ -1,7 +1,7 @@
 -- What the crate promises of patterns and texts: each is the other's inverse, and how long a text is. Assumes nothing.
 use mathlib.Core.Path.{◌≡◌, refl, ap}
 use mathlib.Core.List.{List, ◌∷◌}
-use mathlib.Core.Option.{Option, some, none}
+use Rattle.std.proofs.Common.{Option, Some, None}
 use Prim.Native.Nat.{ℕ, zero, suc, ◌-◌, ◌/◌, ◌^◌, ◌≤◌, ◌<◌}
 use native.Mathlib.Omega.{arith}
 use lib.ListN.{length}
@@ -17,7 +17,6 @@ pub use Rattle.decimal.proofs.Steps.{turn, no_more, recognised}
 -- numbers without a sign: each of text and number gives the other, and how long a text is
 pub use Rattle.decimal.proofs.Natural.{digit, natural_one, natural_more, after_grows, positive_text, text_positive, length_natural}
 -- what the answer of `recognise` says of the string
-pub use Rattle.decimal.proofs.Cases.{recognised_integer, recognised_other}
 -- the text of a number without a sign, and with one
 pub use Rattle.decimal.proofs.Writing.{text_plus, text_minus}
 
@@ -35,10 +34,10 @@ text s p (minus r n e q f k) =
     let b : 2 ^ 64 - p ≡ n = omega arith in
     rw (e, le-ltb p (2 ^ 63) (omega arith), b) (ap (λ (l : List ℕ). 45 ∷ l) t.1)
 
-pub pattern_below : (s : List ℕ) (p : ℕ) → pattern_of s ≡ some p → p < 2 ^ 64
+pub pattern_below : (s : List ℕ) (p : ℕ) → pattern_of s ≡ Some p → p < 2 ^ 64
 pattern_below s p e = below s p (is s p e)
 
-pub text_of_pattern : (s : List ℕ) (p : ℕ) → pattern_of s ≡ some p → text_of p ≡ s
+pub text_of_pattern : (s : List ℕ) (p : ℕ) → pattern_of s ≡ Some p → text_of p ≡ s
 text_of_pattern s p e = text s p (is s p e)
 
 natural_is : (p : ℕ) → p < 2 ^ 63 → Is (natural_text p) p
@@ -52,7 +51,7 @@ text_is p h =
     pick_lt (λ (t : List ℕ). Is t p) p (2 ^ 63) _ _ (natural_is p)
     (λ k. minus (natural_text (2 ^ 64 - p)) (2 ^ 64 - p) refl (omega arith) (text_positive (2 ^ 64 - p) (omega arith) (omega arith)) (omega arith))
 
-pub pattern_of_text : (p : ℕ) → p < 2 ^ 64 → pattern_of (text_of p) ≡ some p
+pub pattern_of_text : (p : ℕ) → p < 2 ^ 64 → pattern_of (text_of p) ≡ Some p
 pattern_of_text p h = pattern (text_of p) p (text_is p h)
 
 pub text_length : (p : ℕ) → (1 ≤ length (text_of p)) × (length (text_of p) ≤ 20)
@@ -72,9 +71,9 @@ unfolding text_of natural_text
 text_bytes p =
     pick_lt Bytes p (2 ^ 63) _ _ (λ h. digits_bytes 20 p) (λ h. bytes_cons (omega arith) (digits_bytes 20 (2 ^ 64 - p)))
 
-pub pattern_long : (s : List ℕ) → 20 < length s → pattern_of s ≡ none
+pub pattern_long : (s : List ℕ) → 20 < length s → pattern_of s ≡ None
 pattern_long s h = by (pattern_of s) refl
   where
-    by : (o : Option ℕ) → pattern_of s ≡ o → o ≡ none
-    by none e = refl
-    by (some p) e = absurd (omega (arith, text_length p, ap length (text_of_pattern s p e)))
+    by : (o : Option ℕ) → pattern_of s ≡ o → o ≡ None
+    by None e = refl
+    by (Some p) e = absurd (omega (arith, text_length p, ap length (text_of_pattern s p e)))

@@ -1,7 +1,7 @@
 -- Natural numbers in decimal digits: one digit more, and that digits read and digits written are inverse. Assumes nothing.
 use mathlib.Core.Path.{◌≡◌, ap, ap₂, ◌∙◌}
 use mathlib.Core.List.{List, [], ◌∷◌, ◌++◌, append_assoc, append-nil}
-use mathlib.Core.Option.{Option, some, none}
+use Rattle.std.proofs.Common.{Option, Some, None}
 use Prim.Native.Nat.{ℕ, zero, suc, ◌+◌, ◌-◌, ◌*◌, ◌/◌, ◌%◌, ◌^◌, ◌≤◌, ◌<◌}
 use native.Mathlib.Nat.{pow-succ'}
 use native.Mathlib.Omega.{arith}
@@ -84,24 +84,24 @@ pub length_shorter : (n : ℕ) → n < 10 ^ 19 → length (natural_text n) ≤ 1
 unfolding natural_text
 length_shorter n h = rw (← (more_room 18 n h)) (length_digits 19 n)
 
-pub none_some : {x : ℕ} → none ≡ some x → ⊥
+pub none_some : {x : ℕ} → None ≡ Some x → ⊥
 none_some {x} e = let z : ◌≡◌ {A = ℕ} 0 1 = cc in omega arith
 
 -- a digit that was found, from lo on
-pub digit : (lo b : ℕ) (o : Option ℕ) (m : ℕ) → (need (both (leb lo b) (leb b 57)) >> o) ≡ some m → (lo ≤ b) × (b ≤ 57) × (o ≡ some m)
+pub digit : (lo b : ℕ) (o : Option ℕ) (m : ℕ) → (need (both (leb lo b) (leb b 57)) >> o) ≡ Some m → (lo ≤ b) × (b ≤ 57) × (o ≡ Some m)
 digit lo b o m e =
     needed (both (leb lo b) (leb b 57)) o e
     (λ t k. let u = both_true (leb lo b) (leb b 57) t in (leb-true lo b u.0, leb-true b 57 u.1, k))
 
 module _ (m : ℕ) where
   -- more digits make no smaller number
-  pub after_grows : (n : ℕ) (s : List ℕ) → digits_after n s ≡ some m → n ≤ m
+  pub after_grows : (n : ℕ) (s : List ℕ) → digits_after n s ≡ Some m → n ≤ m
   unfolding digits_after
   after_grows n [] e = let q : n ≡ m = cc in omega arith
   after_grows n (b ∷ bs) e = omega (arith, after_grows (10 * n + (b - 48)) bs (digit 48 b _ m e).2)
 
   -- the number whose text is that of n and then s
-  after_text : (n : ℕ) (s : List ℕ) → m < 2 ^ 64 → 1 ≤ n → digits_after n s ≡ some m → natural_text m ≡ natural_text n ++ s
+  after_text : (n : ℕ) (s : List ℕ) → m < 2 ^ 64 → 1 ≤ n → digits_after n s ≡ Some m → natural_text m ≡ natural_text n ++ s
   unfolding digits_after
   after_text n [] k h e = let q : n ≡ m = cc in rw (q, append-nil)
   after_text n (b ∷ bs) k h e =
@@ -112,7 +112,7 @@ module _ (m : ℕ) where
       ∙ ap₂ (λ (q c : ℕ). natural_text q ++ (c ∷ [])) (omega arith) (omega arith) in
       after_text x bs k (omega arith) d.2 ∙ ap (λ (l : List ℕ). l ++ bs) t ∙ append_assoc (natural_text n) (b ∷ []) bs
 
-pub positive_text : (s : List ℕ) (n : ℕ) → positive_of s ≡ some n → n < 2 ^ 64 → (1 ≤ n) × (natural_text n ≡ s)
+pub positive_text : (s : List ℕ) (n : ℕ) → positive_of s ≡ Some n → n < 2 ^ 64 → (1 ≤ n) × (natural_text n ≡ s)
 unfolding positive_of
 positive_text [] n e k = absurd (none_some e)
 positive_text (b ∷ bs) n e k =
@@ -123,7 +123,7 @@ positive_text (b ∷ bs) n e k =
     )
 
 -- one digit more at the end
-after_last : (m d n : ℕ) (s : List ℕ) → d < 10 → digits_after n s ≡ some m → digits_after n (s ++ ((48 + d) ∷ [])) ≡ some (10 * m + d)
+after_last : (m d n : ℕ) (s : List ℕ) → d < 10 → digits_after n s ≡ Some m → digits_after n (s ++ ((48 + d) ∷ [])) ≡ Some (10 * m + d)
 unfolding digits_after
 after_last m d n [] h e = let q : n ≡ m = cc in
     let r : 48 + d - 48 ≡ d = omega arith in
@@ -132,27 +132,27 @@ after_last m d n (b ∷ bs) h e =
     let k = digit 48 b _ m e in
     simp (le-leb 48 b k.0, le-leb b 57 k.1) (after_last m d (10 * n + (b - 48)) bs h k.2)
 
-positive_last : (m d : ℕ) (s : List ℕ) → d < 10 → positive_of s ≡ some m → positive_of (s ++ ((48 + d) ∷ [])) ≡ some (10 * m + d)
+positive_last : (m d : ℕ) (s : List ℕ) → d < 10 → positive_of s ≡ Some m → positive_of (s ++ ((48 + d) ∷ [])) ≡ Some (10 * m + d)
 unfolding positive_of
 positive_last m d [] h e = absurd (none_some e)
 positive_last m d (b ∷ bs) h e =
     let k = digit 49 b _ m e in
     simp (le-leb 49 b k.0, le-leb b 57 k.1) (after_last m d (b - 48) bs h k.2)
 
-single : (n : ℕ) → 1 ≤ n → n < 10 → positive_of ((48 + n) ∷ []) ≡ some n
+single : (n : ℕ) → 1 ≤ n → n < 10 → positive_of ((48 + n) ∷ []) ≡ Some n
 unfolding positive_of digits_after
 single n h k =
     let r : 48 + n - 48 ≡ n = omega arith in
     simp (le-leb 49 (48 + n) (omega arith), le-leb (48 + n) 57 (omega arith), r)
 
-digits_positive : (k n : ℕ) → 1 ≤ n → n < 10 ^ k → positive_of (digits_of k n) ≡ some n
+digits_positive : (k n : ℕ) → 1 ≤ n → n < 10 ^ k → positive_of (digits_of k n) ≡ Some n
 unfolding digits_of
 digits_positive zero n h l = absurd (omega arith)
 digits_positive (suc k) n h l =
-    pick_lt (λ (t : List ℕ). positive_of t ≡ some n) n 10 _ _ (λ j. single n h j) λ j.
+    pick_lt (λ (t : List ℕ). positive_of t ≡ Some n) n 10 _ _ (λ j. single n h j) λ j.
     let q : 10 * (n / 10) + n % 10 ≡ n = omega arith in
-    positive_last (n / 10) (n % 10) (digits_of k (n / 10)) (omega arith) (digits_positive k (n / 10) (omega arith) (omega (arith, pow-succ' 10 k))) ∙ ap some q
+    positive_last (n / 10) (n % 10) (digits_of k (n / 10)) (omega arith) (digits_positive k (n / 10) (omega arith) (omega (arith, pow-succ' 10 k))) ∙ ap Some q
 
-pub text_positive : (n : ℕ) → 1 ≤ n → n < 2 ^ 64 → positive_of (natural_text n) ≡ some n
+pub text_positive : (n : ℕ) → 1 ≤ n → n < 2 ^ 64 → positive_of (natural_text n) ≡ Some n
 unfolding natural_text
 text_positive n h k = digits_positive 20 n h (omega arith)

@@ -2,7 +2,7 @@
 use mathlib.Core.Path.{◌≡◌, refl, sym, ap, ◌∙◌}
 use mathlib.Core.Bool.{Bool, true, false}
 use mathlib.Core.List.{List, [], ◌∷◌}
-use mathlib.Core.Option.{Option, some, none}
+use Rattle.std.proofs.Common.{Option, Some, None}
 use Prim.Native.Nat.{ℕ, ◌+◌, ◌-◌, ◌*◌, ◌^◌, ◌≤◌, ◌<◌}
 use native.Mathlib.Nat.{zero-add}
 use native.Mathlib.Omega.{arith}
@@ -13,9 +13,8 @@ use Rattle.octets.specs.Compare.{same}
 use Rattle.octets.specs.Maybe.{◌>>=◌, ◌>>◌, need}
 use Rattle.octets.specs.Pick.{pick, both}
 use Rattle.octets.proofs.Laws.{pick_eq, cut}
-use Rattle.decimal.specs.Integer.{digits_after, positive_of, up_to, unsigned_of, negative_of, signed_of, pattern_of, recognised_by}
+use Rattle.decimal.specs.Integer.{digits_after, positive_of, up_to, unsigned_of, negative_of, signed_of, pattern_of}
 use Rattle.decimal.specs.Steps.{is_digit_from, grown, stepped, after, signed, so_far}
-use Rattle.decimal.specs.declared.Recognised.TheVariants.{Other}
 use Rattle.decimal.specs.declared.recognition.Prefix.{Prefix}
 use Rattle.decimal.specs.declared.recognition.Prefix.TheVariants.{Empty, Minus, Number, Failed}
 use Rattle.decimal.proofs.Natural.{digit, after_grows}
@@ -26,18 +25,18 @@ completes Empty s = pattern_of s
 completes Minus s = negative_of s
 completes (Number negative false n) s = digits_after n s >>= signed negative
 completes (Number negative true n) [] = signed negative n
-completes (Number negative true n) (b ∷ s) = none
-completes Failed s = none
+completes (Number negative true n) (b ∷ s) = None
+completes Failed s = None
 
 -- out of range for good
-passed : (negative : Bool) (n : ℕ) (s : List ℕ) → 2 ^ 63 < n → (digits_after n s >>= signed negative) ≡ none
+passed : (negative : Bool) (n : ℕ) (s : List ℕ) → 2 ^ 63 < n → (digits_after n s >>= signed negative) ≡ None
 unfolding signed
 passed negative n s h = by negative (digits_after n s) refl
   where
-    by : (t : Bool) (o : Option ℕ) → digits_after n s ≡ o → (o >>= signed t) ≡ none
-    by t none e = refl
-    by false (some m) e = simp (lt-leb m (2 ^ 63 - 1) (omega (arith, after_grows m n s e)))
-    by true (some m) e = let g = after_grows m n s e in simp (le-leb 1 m (omega arith), lt-leb m (2 ^ 63) (omega arith))
+    by : (t : Bool) (o : Option ℕ) → digits_after n s ≡ o → (o >>= signed t) ≡ None
+    by t None e = refl
+    by false (Some m) e = simp (lt-leb m (2 ^ 63 - 1) (omega (arith, after_grows m n s e)))
+    by true (Some m) e = let g = after_grows m n s e in simp (le-leb 1 m (omega arith), lt-leb m (2 ^ 63) (omega arith))
 
 module _ (negative : Bool) (n low b : ℕ) (s : List ℕ) where
   longer : (need (is_digit_from low b) >> digits_after (10 * n + (b - 48)) s >>= signed negative) ≡ completes (grown negative false n low b) s
@@ -56,12 +55,12 @@ zero_first [] = refl
 zero_first (b ∷ s) = refl
 
 -- after a minus the number is at least 1
-negated : (o : Option ℕ) → ((m : ℕ) → o ≡ some m → 1 ≤ m) → (up_to (2 ^ 63) o >>= λ n. some (2 ^ 64 - n)) ≡ (o >>= signed true)
+negated : (o : Option ℕ) → ((m : ℕ) → o ≡ Some m → 1 ≤ m) → (up_to (2 ^ 63) o >>= λ n. Some (2 ^ 64 - n)) ≡ (o >>= signed true)
 unfolding signed
-negated none h = refl
-negated (some m) h = simp (le-leb 1 m (h m refl)) (by (leb m (2 ^ 63)))
+negated None h = refl
+negated (Some m) h = simp (le-leb 1 m (h m refl)) (by (leb m (2 ^ 63)))
   where
-    by : (t : Bool) → (need t >> some m >>= λ n. some (2 ^ 64 - n)) ≡ (need t >> some (2 ^ 64 - m))
+    by : (t : Bool) → (need t >> Some m >>= λ n. Some (2 ^ 64 - n)) ≡ (need t >> Some (2 ^ 64 - m))
     by true = refl
     by false = refl
 
@@ -80,7 +79,7 @@ one (Number negative false n) b s = longer negative n 48 b s
 one (Number negative true n) b s = refl
 one Failed b s = refl
 
-none_left : (p : Prefix) → recognised_by (completes p []) ≡ so_far p
+none_left : (p : Prefix) → (completes p []) ≡ so_far p
 unfolding pattern_of signed_of negative_of positive_of digits_after same
 none_left Empty = refl
 none_left Minus = refl
@@ -88,18 +87,18 @@ none_left (Number negative true n) = refl
 none_left (Number negative false n) = refl
 none_left Failed = refl
 
-all : (s : List ℕ) (p : Prefix) → so_far (after p s) ≡ recognised_by (completes p s)
+all : (s : List ℕ) (p : Prefix) → so_far (after p s) ≡ (completes p s)
 unfolding after
 all [] p = sym (none_left p)
-all (b ∷ s) p = all s (stepped p b) ∙ ap recognised_by (sym (one p b s))
+all (b ∷ s) p = all s (stepped p b) ∙ (sym (one p b s))
 
 -- after the steps of a string the answer is the one for it
-pub recognised : (s : List ℕ) → so_far (after Empty s) ≡ recognised_by (pattern_of s)
+pub recognised : (s : List ℕ) → so_far (after Empty s) ≡ pattern_of s
 recognised s = all s Empty
 
 -- once failed, failed for good
-pub failed : (p : Prefix) (s : List ℕ) → p ≡ Failed → so_far (after p s) ≡ Other
-failed p s e = all s p ∙ ap (λ (q : Prefix). recognised_by (completes q s)) e
+pub failed : (p : Prefix) (s : List ℕ) → p ≡ Failed → so_far (after p s) ≡ None
+failed p s e = all s p ∙ ap (λ (q : Prefix). (completes q s)) e
 
 -- a step at a place of a string, and none past its end
 pub turn : (p q : Prefix) (s : List ℕ) (i : ℕ) → i < length s → q ≡ stepped p (get_or s i 0) → after p (drop i s) ≡ after q (drop (i + 1) s)

@@ -1,12 +1,8 @@
 -- Recognition in one pass (02, CR 3): a state that takes one byte a step and answers for the bytes so far. Which strings are integers is
 -- said by `pattern_of`; that after the steps of any string the answer is the same is the law `recognised`. Assumes nothing.
-use Rattle.std.specs.Prelude.{Bool, true, false, List, [], ◌∷◌, ℕ, ◌+◌, ◌-◌, ◌*◌, ◌^◌, leb, ltb, eqb}
-use Rattle.std.proofs.Math.Option.{Option, some}
+use Rattle.std.specs.Prelude.{Bool, true, false, List, [], ◌∷◌, ℕ, ◌+◌, ◌-◌, ◌*◌, ◌^◌, leb, ltb, eqb, Option, Some, None}
 use Rattle.octets.specs.Pick.{pick, both}
 use Rattle.octets.specs.Maybe.{◌>>◌, need}
-use Rattle.decimal.specs.Integer.{recognised_by}
-use Rattle.decimal.specs.declared.Recognised.{Recognised}
-use Rattle.decimal.specs.declared.Recognised.TheVariants.{Other}
 use Rattle.decimal.specs.declared.recognition.Prefix.{Prefix}
 use Rattle.decimal.specs.declared.recognition.Prefix.TheVariants.{Empty, Minus, Number, Failed}
 
@@ -34,14 +30,14 @@ after p (b ∷ bs) = after (stepped p b) bs
 unfoldable pub signed : Bool → ℕ → Option ℕ
 signed false n = do
   need (leb n (2 ^ 63 - 1))
-  some n
+  Some n
 signed true n = do
   need (both (leb 1 n) (leb n (2 ^ 63)))
-  some (2 ^ 64 - n)
+  Some (2 ^ 64 - n)
 
 -- the answer for the bytes so far
-abbrev pub so_far : Prefix → Recognised
-so_far Empty = Other
-so_far Minus = Other
-so_far (Number negative zero n) = recognised_by (signed negative n)
-so_far Failed = Other
+abbrev pub so_far : Prefix → Option ℕ
+so_far Empty = None
+so_far Minus = None
+so_far (Number negative zero n) = signed negative n
+so_far Failed = None

@@ -10,13 +10,6 @@ ghost use Rattle.std.specs.Prelude.{◌≡◌, ◌-◌, ◌^◌, ◌≤◌};
 pub use recognition::{Recogniser, recognise};
 pub use text::{natural_size, text_size, write_natural, write_sized, write_text};
 
-// Whether a string is an integer: its 64-bit two's complement pattern.
-#[derive(Clone, Copy)]
-pub enum Recognised {
-    Integer(u64),
-    Other,
-}
-
 // 2^63: a pattern below it stands for itself, the others for negative numbers.
 const HALF: u64 = 9223372036854775808;
 

@@ -1,11 +1,11 @@
 // Which strings are integers: a state takes the bytes one by one and answers for those so far.
 
 ghost use Rattle.std.specs.Prelude.{◌≡◌, ◌≤◌, length};
-ghost use Rattle.decimal.specs.Integer.{pattern_of, recognised_by};
+ghost use Rattle.decimal.specs.Integer.{pattern_of};
 ghost use Rattle.decimal.specs.Steps.{is_digit_from, grown, stepped, so_far, after};
 ghost use Rattle.decimal.specs.declared.recognition.Prefix.TheVariants.{Empty};
 
-use crate::{HALF, Recognised, negated};
+use crate::{HALF, negated};
 
 // What the bytes so far are.
 #[derive(Clone, Copy)]
@@ -83,7 +83,7 @@ impl Recogniser {
     }
 
     // For the bytes so far.
-    pub fn answer(self) -> Recognised
+    pub fn answer(self) -> Option<u64>
         ensures { result ≡ so_far self.0 }
     {
         let prefix = self.0;
@@ -91,56 +91,54 @@ impl Recogniser {
             Prefix::Number(negative, _, n) => {
                 if negative {
                     if n == 0 {
-                        return Recognised::Other;
+                        return None;
                     }
                     if HALF < n {
-                        return Recognised::Other;
+                        return None;
                     }
-                    return Recognised::Integer(negated(n));
+                    return Some(negated(n));
                 }
                 if HALF <= n {
-                    return Recognised::Other;
+                    return None;
                 }
-                Recognised::Integer(n)
+                Some(n)
             }
-            Prefix::Empty => Recognised::Other,
-            Prefix::Minus => Recognised::Other,
-            Prefix::Failed => Recognised::Other,
+            Prefix::Empty => None,
+            Prefix::Minus => None,
+            Prefix::Failed => None,
         }
     }
 }
 
 // One walk, a step a byte, until the state has failed. The first step stands before the loop, where the compiler knows the state.
-fn walk(s: &[u8]) -> Recognised
+fn walk(s: &[u8]) -> Option<u64>
     requires { length s.now ≤ 20 }
     ensures { result ≡ so_far (after Empty s.now) }
 {
     if s.len() == 0 {
-        return Recognised::Other;
+        return None;
     }
     let mut state = Recogniser::new().step(s[0]);
     let mut prefix = state.0;
     if let Prefix::Failed = prefix {
-        return Recognised::Other;
+        return None;
     }
-    let mut i = 1;
-    while i < s.len() {
+    for i in 1..s.len() {
         state = state.step(s[i]);
         prefix = state.0;
         if let Prefix::Failed = prefix {
-            return Recognised::Other;
+            return None;
         }
-        i += 1;
     }
     state.answer()
 }
 
 // No integer has more than 20 bytes, so a longer string takes no step.
-pub fn recognise(s: &[u8]) -> Recognised
-    ensures { result ≡ recognised_by (pattern_of s.now) }
+pub fn recognise(s: &[u8]) -> Option<u64>
+    ensures { result ≡ pattern_of s.now }
 {
     if 20 < s.len() {
-        return Recognised::Other;
+        return None;
     }
     walk(s)
 }

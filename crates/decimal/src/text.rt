@@ -38,6 +38,7 @@ pub fn natural_size(n: u64) -> usize
 {
     let mut size = 0;
     let mut x = n;
+    // No range: x is divided until it is short.
     while 10000 <= x {
         x = x / 10000;
         size += 4;
@@ -74,6 +75,7 @@ pub fn write_sized(d: &mut [u8], at: usize, size: usize, n: u64)
 {
     let mut end = at + size;
     let mut x = n;
+    // No range: x is divided until it is short.
     while 100 <= x {
         end -= 2;
         write_two(d, end, x % 100);

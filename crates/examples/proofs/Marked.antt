@@ -1,7 +1,7 @@
 -- The cases that 01 marks with *, proved together: the definitions write these bytes, and read them back. Assumes nothing.
 use mathlib.Core.Path.{◌≡◌, refl}
 use mathlib.Core.List.{List, [], ◌∷◌, map}
-use mathlib.Core.Option.{some}
+use Rattle.std.proofs.Common.{Some}
 use Rattle.octets.specs.Bytes.{le, le_value, be, be_from, be_value}
 use Rattle.octets.specs.Place.{area, take_bytes}
 use Rattle.octets.specs.Compare.{same, all_zero}
@@ -46,6 +46,6 @@ pub marked : map (λ (r : Row). bytes_of r.what) table ≡ map (λ (r : Row). r.
 unfolding table snapshot_of file_of contents bodies parts_of fresh_cut add_all id_bytes be Listpack.listpack Listpack.header Listpack.elements element encode_item item_of integer_body text_head back_length fits narrow le pattern_of signed_of negative_of unsigned_of positive_of digits_after same text_of natural_text digits_of node_bytes node_strings entries_strings entry_strings pair_strings master_strings live_in live_count deleted_count same_strings difference_of
 marked = refl
 
-pub read_back : map (λ (r : Row). read_in r.what) table ≡ map (λ (r : Row). some r.what) table
+pub read_back : map (λ (r : Row). read_in r.what) table ≡ map (λ (r : Row). Some r.what) table
 unfolding table parse_snapshot parse_file take_parts read_parts take_bytes is_ledger messages_above is_groups are_groups rising_names snapshot_of file_of contents bodies parts_of fresh_cut add_all id_bytes id_from be be_from be_value Listpack.listpack Listpack.header Listpack.elements element encode_item item_of integer_body text_head back_length fits narrow extend le le_value area all_zero pattern_of signed_of negative_of unsigned_of positive_of digits_after same text_of natural_text digits_of parse read_element read_by read_wide tag_width close_integer as_integer integer_stands close_text as_text text_stands back_at parse_many parse_listpack node_bytes node_strings entries_strings entry_strings pair_strings master_strings live_in live_count deleted_count same_strings difference_of rebuilt_of id_order node_size slot_of rising_from are_messages is_message are_pairs are_strings is_node are_counts has_room read_number read_exactly read_strings read_values read_pairs read_entry read_entries parse_strings parse_node parse_slot
 read_back = refl

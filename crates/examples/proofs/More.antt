@@ -2,9 +2,10 @@
 use mathlib.Core.Bool.{false}
 use mathlib.Core.Path.{◌≡◌, refl}
 use mathlib.Core.List.{List, [], ◌∷◌, ◌++◌, map}
-use mathlib.Core.Option.{Option, some, none}
+use Rattle.std.proofs.Common.{Option, Some, None}
 use Prim.Native.Nat.{ℕ, zero, suc, ◌+◌, ◌-◌, ◌^◌}
 use lib.ListN.{length, take, replicate}
+use Rattle.refusal.specs.declared.Refusal.TheVariants.{NoSlot, Damaged, BadArgument, LowId, NoIdLeft, LongMessage, Full, ShortOutput, NoGroup, GroupExists, MostGroups, MostConsumers, MostPending, NotLive, NoSnapshot, SmallStore}
 use Rattle.octets.specs.Bytes.{zeros}
 use Rattle.id.specs.Id.{id_of, top, least, greatest}
 use Rattle.keys.specs.Entries as Index
@@ -127,23 +128,23 @@ asked x y = record { command = on_stream x; answer = y }
 pub asks : List Asked
 asks =
     asked Command.set_up Command.done
-    ∷ asked (Command.add (id_of 0 0) (slip_of a one)) (Command.refused 4)
+    ∷ asked (Command.add (id_of 0 0) (slip_of a one)) (Command.refused LowId)
     ∷ asked (Command.add (id_of 5 0) (slip_of a one)) (Command.given (id_of 5 0))
-    ∷ asked (Command.add (id_of 5 0) (slip_of a one)) (Command.refused 4)
-    ∷ asked (Command.add (id_of 6 0) (0 ∷ [])) (Command.refused 3)
+    ∷ asked (Command.add (id_of 5 0) (slip_of a one)) (Command.refused LowId)
+    ∷ asked (Command.add (id_of 6 0) (0 ∷ [])) (Command.refused BadArgument)
     ∷ asked (Command.add_by_clock 5 (slip_of b [])) (Command.given (id_of 5 1))
     ∷ asked (Command.add_by_clock 7 (slip_of a (replicate 1000 120))) (Command.given (id_of 7 0))
     ∷ asked (Command.asks (Command.next (id_of 5 1))) (Command.given (id_of 5 1))
     ∷ asked (Command.asks (Command.next (id_of 8 0))) Command.nothing
     ∷ asked (Command.asks (Command.read (id_of 5 0) 100)) (Command.written (slip_of a one))
-    ∷ asked (Command.asks (Command.read (id_of 5 0) 6)) (Command.refused 8)
-    ∷ asked (Command.asks (Command.read (id_of 5 2) 6)) (Command.refused 14)
+    ∷ asked (Command.asks (Command.read (id_of 5 0) 6)) (Command.refused ShortOutput)
+    ∷ asked (Command.asks (Command.read (id_of 5 2) 6)) (Command.refused NotLive)
     ∷ asked (Command.asks (Command.field (id_of 5 1) b 0)) (Command.written [])
     ∷ asked (Command.asks (Command.field (id_of 5 1) a 0)) Command.absent
-    ∷ asked (Command.in_group g (Command.group_read c 7)) (Command.refused 9)
+    ∷ asked (Command.in_group g (Command.group_read c 7)) (Command.refused NoGroup)
     ∷ asked (Command.create_group g least) Command.done
-    ∷ asked (Command.create_group g least) (Command.refused 10)
-    ∷ asked (Command.create_group [] least) (Command.refused 3)
+    ∷ asked (Command.create_group g least) (Command.refused GroupExists)
+    ∷ asked (Command.create_group [] least) (Command.refused BadArgument)
     ∷ asked (Command.in_group g (Command.group_read c 7)) (Command.given (id_of 5 0))
     ∷ asked (Command.in_group g (Command.claim d 3 (id_of 5 0) 9)) Command.not_moved
     ∷ asked (Command.in_group g (Command.claim d 2 (id_of 5 0) 9)) Command.moved
@@ -157,8 +158,8 @@ asks =
     ∷ asked (Command.trim 1) (Command.counted 1)
     ∷ asked (Command.trim 0) (Command.counted 1)
     ∷ record { command = save 28; answer = Command.written (snapshot_of (with_last empty_ledger (id_of 7 0))) }
-    ∷ record { command = save 27; answer = Command.refused 8 }
-    ∷ record { command = load (1 ∷ []); answer = Command.refused 16 }
+    ∷ record { command = save 27; answer = Command.refused ShortOutput }
+    ∷ record { command = load (1 ∷ []); answer = Command.refused NoSnapshot }
     ∷ record { command = load (snapshot_of ledger); answer = Command.done }
     ∷ asked (Command.asks (Command.next least)) (Command.given (id_of 5 0))
     ∷ []
@@ -173,11 +174,11 @@ batches =
     ∷ asked (Command.add (id_of 1 0) (slip_of a one)) (Command.given (id_of 1 0))
     ∷ asked (Command.add (id_of 2 0) (slip_of a one)) (Command.given (id_of 2 0))
     ∷ asked (Command.add (id_of 3 0) (slip_of a one)) (Command.given (id_of 3 0))
-    ∷ asked (many c 1 15) (Command.refused 8)
-    ∷ asked (many c 1 16) (Command.refused 9)
+    ∷ asked (many c 1 15) (Command.refused ShortOutput)
+    ∷ asked (many c 1 16) (Command.refused NoGroup)
     ∷ asked (Command.create_group g least) Command.done
-    ∷ asked (many c 257 4112) (Command.refused 3)
-    ∷ asked (many [] 1 15) (Command.refused 3)
+    ∷ asked (many c 257 4112) (Command.refused BadArgument)
+    ∷ asked (many [] 1 15) (Command.refused BadArgument)
     ∷ asked (many c 0 0) (Command.written [])
     ∷ asked (Command.in_group g (Command.drop_consumer c)) (Command.counted 0)
     ∷ asked (Command.delete (id_of 2 0)) (Command.counted 1)
@@ -209,22 +210,22 @@ two = with_last (with_messages empty_ledger (record { id = id_of 1 0; pairs = wi
 pub refusals : List Asked
 unfolding wide
 refusals =
-    record { command = save 0; answer = Command.refused 2 }
+    record { command = save 0; answer = Command.refused Damaged }
     ∷ asked Command.set_up Command.done
     ∷ asked (Command.add (id_of 1 0) (slip_of a one)) (Command.given (id_of 1 0))
-    ∷ asked (Command.add (id_of 2 0) (slip (wide 5))) (Command.refused 6)
+    ∷ asked (Command.add (id_of 2 0) (slip (wide 5))) (Command.refused LongMessage)
     ∷ asked (Command.add (id_of 2 0) (slip (wide 3))) (Command.given (id_of 2 0))
-    ∷ asked (Command.add (id_of 3 0) (slip (wide 2))) (Command.refused 7)
+    ∷ asked (Command.add (id_of 3 0) (slip (wide 2))) (Command.refused Full)
     ∷ (map creates (1 ∷ 2 ∷ 3 ∷ 4 ∷ 5 ∷ 6 ∷ 7 ∷ 8 ∷ [])
-    ++ (asked (Command.create_group (names 9) least) (Command.refused 11)
-    ∷ asked (Command.create_group (names 8) least) (Command.refused 10)
+    ++ (asked (Command.create_group (names 9) least) (Command.refused MostGroups)
+    ∷ asked (Command.create_group (names 8) least) (Command.refused GroupExists)
     ∷ asked (Command.in_group (names 1) (Command.group_read (names 1) 0)) (Command.given (id_of 1 0))
     ∷ (map claims (2 ∷ 3 ∷ 4 ∷ 5 ∷ 6 ∷ 7 ∷ 8 ∷ 9 ∷ 10 ∷ 11 ∷ 12 ∷ 13 ∷ 14 ∷ 15 ∷ 16 ∷ 1 ∷ [])
-    ++ (asked (Command.in_group (names 1) (Command.claim (names 17) 0 (id_of 1 0) 0)) (Command.refused 12)
-    ∷ asked (Command.in_group (names 1) (Command.group_read (names 17) 0)) (Command.refused 12)
+    ++ (asked (Command.in_group (names 1) (Command.claim (names 17) 0 (id_of 1 0) 0)) (Command.refused MostConsumers)
+    ∷ asked (Command.in_group (names 1) (Command.group_read (names 17) 0)) (Command.refused MostConsumers)
     ∷ asked (Command.add greatest (slip_of a one)) (Command.given greatest)
-    ∷ asked (Command.add_by_clock (2 ^ 64 - 1) (slip_of a one)) (Command.refused 5)
-    ∷ record { command = load (snapshot_of two); answer = Command.refused 17 }
+    ∷ asked (Command.add_by_clock (2 ^ 64 - 1) (slip_of a one)) (Command.refused NoIdLeft)
+    ∷ record { command = load (snapshot_of two); answer = Command.refused SmallStore }
     ∷ []))))
 
 -- a message that fills more than half of a node
@@ -239,7 +240,7 @@ adds ms = asked (Command.add (id_of ms 0) (slip (half ms).pairs)) (Command.given
 abbrev slotted : List Asked
 slotted =
     asked Command.set_up Command.done ∷ adds 1 ∷ adds 2
-    ∷ asked (Command.add (id_of 3 0) (slip (wide 3))) (Command.refused 7)
+    ∷ asked (Command.add (id_of 3 0) (slip (wide 3))) (Command.refused Full)
     ∷ asked (Command.delete (id_of 1 0)) (Command.counted 1)
     ∷ adds 3
     ∷ asked (Command.add_by_clock 3 (slip_of a one)) (Command.given (id_of 3 1))
@@ -247,8 +248,8 @@ slotted =
     ∷ []
 
 abbrev slots_held : Option Cut.Model → List ℕ
-slots_held none = []
-slots_held (some m) = map (λ (n : Cut.Node). n.slot) m.nodes
+slots_held None = []
+slots_held (Some m) = map (λ (n : Cut.Node). n.slot) m.nodes
 
 -- 01's errors that look reasonable: field names through the master, a negative difference, last seq plus 1 at its end, saving a
 -- deleted message
@@ -292,39 +293,39 @@ abbrev filled : ℕ → Cut.Model
 filled n = Cut.model_of (half_nodes 0 (halves n 1)) (with_last empty_ledger (id_of n 0))
 
 abbrev codes : ℕ → List Command → Cut.Model → List ℕ
-codes slots cs m = map Command.code_of (answers_all slots cs (some m))
+codes slots cs m = map Command.code_of (answers_all slots cs (Some m))
 
 -- what is computed
 pub record Computed : Type 0 where
   pub written : map (λ (r : Row). bytes_of r.what) table ≡ map (λ (r : Row). r.bytes) table
   pub elements17 : length (node_strings second) ≡ 17
   pub sizes : map node_size (second ∷ aged 127 ∷ aged 128 ∷ []) ≡ 43 ∷ 1320 ∷ 1321 ∷ []
-  pub read_back : map read_in cases ≡ map some cases
+  pub read_back : map read_in cases ≡ map Some cases
   -- a region and a body give the group back
-  pub region : (length (region_bytes group) ≡ 7220) × (parse_region (region_bytes group) ≡ some group) × (parse_body (body_bytes group) ≡ some group)
-  pub area8 : parse_area (id_of 5 0) (area_bytes (group ∷ [])) ≡ some (group ∷ [])
+  pub region : (length (region_bytes group) ≡ 7220) × (parse_region (region_bytes group) ≡ Some group) × (parse_body (body_bytes group) ≡ Some group)
+  pub area8 : parse_area (id_of 5 0) (area_bytes (group ∷ [])) ≡ Some (group ∷ [])
   -- a store of two slots and a tail: the second slot holds the node
   pub image : image_from (zeros 4096 ++ (slot_of second ++ (9 ∷ []))) (id_of 6 0) (Index.entry (id_bytes (id_of 5 0)) 1 ∷ []) (area_bytes (group ∷ []))
-      ≡ some (Cut.model_of (Cut.node_at 1 second ∷ []) (with_groups (with_last empty_ledger (id_of 6 0)) (group ∷ [])))
-  pub answered : answers_all 1 (map (λ (x : Asked). x.command) asks) none ≡ map (λ (x : Asked). x.answer) asks
-  pub refused : answers_all 1 (map (λ (x : Asked). x.command) refusals) none ≡ map (λ (x : Asked). x.answer) refusals
-  pub no_slot : answers_all 0 (on_stream Command.set_up ∷ load [] ∷ []) (some Cut.empty_model) ≡ Command.refused 1 ∷ Command.refused 1 ∷ []
-  pub slots2 : answers_all 2 (map (λ (x : Asked). x.command) slotted) none ≡ map (λ (x : Asked). x.answer) slotted
+      ≡ Some (Cut.model_of (Cut.node_at 1 second ∷ []) (with_groups (with_last empty_ledger (id_of 6 0)) (group ∷ [])))
+  pub answered : answers_all 1 (map (λ (x : Asked). x.command) asks) None ≡ map (λ (x : Asked). x.answer) asks
+  pub refused : answers_all 1 (map (λ (x : Asked). x.command) refusals) None ≡ map (λ (x : Asked). x.answer) refusals
+  pub no_slot : answers_all 0 (on_stream Command.set_up ∷ load [] ∷ []) (Some Cut.empty_model) ≡ Command.refused NoSlot ∷ Command.refused NoSlot ∷ []
+  pub slots2 : answers_all 2 (map (λ (x : Asked). x.command) slotted) None ≡ map (λ (x : Asked). x.answer) slotted
   -- after the second add of ID 3-0 the nodes stand in the slots 1 and 0; after the trim the first of them is free
-  pub reused : slots_held (run_all 2 (map (λ (x : Asked). x.command) (take 6 slotted)) none) ≡ 1 ∷ 0 ∷ []
-  pub trimmed : slots_held (run_all 2 (map (λ (x : Asked). x.command) slotted) none) ≡ 0 ∷ []
-  pub tempted : answers_all 1 (map (λ (x : Asked). x.command) tempting) none ≡ map (λ (x : Asked). x.answer) tempting
+  pub reused : slots_held (run_all 2 (map (λ (x : Asked). x.command) (take 6 slotted)) None) ≡ 1 ∷ 0 ∷ []
+  pub trimmed : slots_held (run_all 2 (map (λ (x : Asked). x.command) slotted) None) ≡ 0 ∷ []
+  pub tempted : answers_all 1 (map (λ (x : Asked). x.command) tempting) None ≡ map (λ (x : Asked). x.answer) tempting
   -- 256 pending
   pub pending255 : codes 1 (on_stream (Command.in_group g (Command.group_read c 7)) ∷ []) (behind 255) ≡ 0 ∷ []
   pub pending256 : codes 1 (on_stream (Command.in_group g (Command.group_read c 7)) ∷ []) (behind 256) ≡ 13 ∷ []
-  pub batched : answers_all 1 (map (λ (x : Asked). x.command) batches) none ≡ map (λ (x : Asked). x.answer) batches
-  pub batch255 : answers_all 1 (on_stream (many c 2 32) ∷ []) (some (behind 255)) ≡ Command.written (id_bytes (id_of 2 0)) ∷ []
-  pub batch256 : answers_all 1 (on_stream (many c 0 0) ∷ on_stream (many c 2 32) ∷ []) (some (behind 256)) ≡ Command.written [] ∷ Command.refused 13 ∷ []
+  pub batched : answers_all 1 (map (λ (x : Asked). x.command) batches) None ≡ map (λ (x : Asked). x.answer) batches
+  pub batch255 : answers_all 1 (on_stream (many c 2 32) ∷ []) (Some (behind 255)) ≡ Command.written (id_bytes (id_of 2 0)) ∷ []
+  pub batch256 : answers_all 1 (on_stream (many c 0 0) ∷ on_stream (many c 2 32) ∷ []) (Some (behind 256)) ≡ Command.written [] ∷ Command.refused MostPending ∷ []
   -- a fresh cut of 64 nodes, and of 65
   pub nodes64 : codes 64 (save 0 ∷ []) (filled 64) ≡ 8 ∷ []
   pub nodes65 : codes 64 (save 0 ∷ []) (filled 65) ≡ 15 ∷ []
   -- two nodes fit two slots
-  pub loaded2 : slots_held (run_all 2 (load (snapshot_of two) ∷ []) none) ≡ 0 ∷ 1 ∷ []
+  pub loaded2 : slots_held (run_all 2 (load (snapshot_of two) ∷ []) None) ≡ 0 ∷ 1 ∷ []
   -- the index by its entries
   pub indexed : Indexed.replies
       (Indexed.put [] 1 ∷ Indexed.put a 1 ∷ Indexed.put c 3 ∷ Indexed.put a 2 ∷ Indexed.find a ∷ Indexed.first_at_or_above b

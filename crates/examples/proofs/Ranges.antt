@@ -2,8 +2,9 @@
 use mathlib.Core.Path.{◌≡◌, refl}
 use mathlib.Core.Bool.{true}
 use mathlib.Core.List.{List, [], ◌∷◌, ◌++◌, map}
-use mathlib.Core.Option.{some}
+use Rattle.std.proofs.Common.{Some}
 use Prim.Native.Nat.{ℕ, ◌+◌}
+use Rattle.refusal.specs.declared.Refusal.TheVariants.{ShortOutput}
 use Rattle.id.specs.declared.Id.{Id}
 use Rattle.id.specs.Id.{id_of, least, greatest, id_order}
 use Rattle.decimal.specs.Text.{natural_text, digits_of}
@@ -51,17 +52,17 @@ asked first last room x = record { first = first; last = last; room = room; answ
 pub ranges : List Asked
 ranges =
     asked least greatest 65 (written (some_of 2 (five ++ six)))
-    ∷ asked least greatest 64 (refused 8)
+    ∷ asked least greatest 64 (refused ShortOutput)
     ∷ asked (id_of 5 0) (id_of 5 0) 99 (written (some_of 1 five))  -- ends included
     ∷ asked (id_of 5 1) (id_of 6 0) 99 (written (some_of 1 six))
     ∷ asked (id_of 7 0) greatest 4 (written (some_of 0 []))  -- deleted
     ∷ asked (id_of 6 0) (id_of 5 0) 4 (written (some_of 0 []))  -- the first above the last
-    ∷ asked (id_of 6 0) (id_of 5 0) 3 (refused 8)
+    ∷ asked (id_of 6 0) (id_of 5 0) 3 (refused ShortOutput)
     ∷ []
 
 abbrev commands : List Command
 commands = map (λ (x : Asked). on_stream (asks (range_reply x.first x.last x.room))) ranges
 
-pub computed : answers_all 1 commands (some model) ≡ map (λ (x : Asked). x.answer) ranges
+pub computed : answers_all 1 commands (Some model) ≡ map (λ (x : Asked). x.answer) ranges
 unfolding ranges five six some_of answers step entries_of live_in between id_order range_bytes entries entry opening bulks bulk id_text head natural_text digits_of
 computed = refl

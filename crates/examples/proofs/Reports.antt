@@ -2,10 +2,11 @@
 use mathlib.Core.Path.{◌≡◌, refl}
 use mathlib.Core.Bool.{true}
 use mathlib.Core.List.{List, [], ◌∷◌, map}
-use mathlib.Core.Option.{some}
+use Rattle.std.proofs.Common.{Some}
 use Prim.Native.Nat.{ℕ, ◌-◌, ◌^◌}
 use lib.IntN.{ℤ, pos, negsuc}
 use lib.ListN.{replicate}
+use Rattle.refusal.specs.declared.Refusal.TheVariants.{BadArgument}
 use Rattle.octets.specs.Compare.{same}
 use Rattle.id.specs.declared.Id.{Id}
 use Rattle.id.specs.Id.{id_of, least, greatest, id_order}
@@ -68,7 +69,7 @@ reports =
     ∷ asked u least greatest (reported 7 0 (integers 2 (pos 9) (pos 1) (pos 8)))
     ∷ asked [] least greatest (no_integers 9 0)
     ∷ asked (replicate 1000 120) least greatest (no_integers 9 0)
-    ∷ asked (replicate 1001 120) least greatest (refused 3)
+    ∷ asked (replicate 1001 120) least greatest (refused BadArgument)
     ∷ []
 
 abbrev commands : List Command
@@ -79,7 +80,7 @@ over first last = report_on t no_messages (between first last (messages_of model
 
 -- what is computed
 pub record Computed : Type 0 where
-  pub answered : answers_all 1 commands (some model) ≡ map (λ (x : Asked). x.answer) reports
+  pub answered : answers_all 1 commands (Some model) ≡ map (λ (x : Asked). x.answer) reports
   -- a range cut in two
   pub halves : joined (over least (id_of 6 7)) (over (id_of 6 8) greatest) ≡ over least greatest
   pub empty_half : joined (over least (id_of 4 0)) (over (id_of 4 1) (id_of 5 0)) ≡ over least (id_of 5 0)

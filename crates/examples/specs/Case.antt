@@ -1,6 +1,5 @@
 -- What a byte example is about, which bytes the definitions give it, and what they read in them. Assumes nothing.
-use Rattle.std.specs.Prelude.{List, [], ◌∷◌, ℕ}
-use Rattle.std.proofs.Math.Option.{Option, map}
+use Rattle.std.specs.Prelude.{List, [], ◌∷◌, ℕ, Option, option_map}
 use Rattle.id.specs.Id.{id_of}
 use Rattle.listpack.specs.Element.{element}
 use Rattle.listpack.specs.Listpack as Listpack
@@ -29,10 +28,10 @@ string_by p = string p.string
 
 -- a node is read in its slot, anything else in its bytes
 abbrev pub read_in : Case → Option Case
-read_in (string s) = map string_by (parse (element s))
-read_in (listpack xs) = map listpack (parse_listpack (Listpack.listpack xs))
-read_in (node es) = map node (parse_slot (key_of es) (slot_of es))
-read_in (snapshot l) = map snapshot (parse_snapshot (snapshot_of l))
+read_in (string s) = option_map string_by (parse (element s))
+read_in (listpack xs) = option_map listpack (parse_listpack (Listpack.listpack xs))
+read_in (node es) = option_map node (parse_slot (key_of es) (slot_of es))
+read_in (snapshot l) = option_map snapshot (parse_snapshot (snapshot_of l))
 
 pub record Row : Type 0 where
   pub what : Case

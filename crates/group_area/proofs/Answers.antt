@@ -2,7 +2,7 @@
 use mathlib.Core.Path.{◌≡◌, refl, sym, ap, ap₂, ◌∙◌, subst}
 use mathlib.Core.Bool.{true, false}
 use mathlib.Core.List.{List, [], ◌∷◌, ◌++◌}
-use mathlib.Core.Option.{some, none}
+use Rattle.std.proofs.Common.{Some, None}
 use Prim.Native.Nat.{ℕ, suc, ◌+◌, ◌-◌, ◌*◌, ◌≤◌, ◌<◌}
 use native.Mathlib.Omega.{arith}
 use lib.ListN.{length, take, drop, get_or, take-append-drop}
@@ -19,6 +19,7 @@ use Rattle.groups.specs.Step.{put_group, without_group, new_group}
 use Rattle.groups.specs.Answer.{spot_from}
 use Rattle.groups.specs.Area.{most_groups, names_of, are_groups, area_bytes}
 use Rattle.groups.proofs.Laws.{known_spot, new_spot, Sound, sound, length_names, StandsAt, stands_at, missing_at}
+use Rattle.refusal.specs.declared.Refusal.TheVariants.{NoGroup, GroupExists, MostGroups}
 use Rattle.group_area.specs.Answer.{groups_in, SoundArea, refusal_to_create, refusal_to_destroy}
 use Rattle.group_area.proofs.Laid.{region_at, region_put, region_out, region_in}
 use Rattle.group_area.proofs.Found.{used_region, free_region}
@@ -58,11 +59,11 @@ module _ (s : List ℕ) (h : SoundArea s) where
       pub known_few : k < 8
       known_few = omega (arith, at.within, rules_of.few)
 
-      pub create_exists : refusal_to_create n (groups_in s) ≡ some 10
+      pub create_exists : refusal_to_create n (groups_in s) ≡ Some GroupExists
       unfolding refusal_to_create
       create_exists = rw among
 
-      pub destroy_done : refusal_to_destroy n (groups_in s) ≡ none
+      pub destroy_done : refusal_to_destroy n (groups_in s) ≡ None
       unfolding refusal_to_destroy
       destroy_done = rw among
 
@@ -89,15 +90,15 @@ module _ (s : List ℕ) (h : SoundArea s) where
       unknown : is_among n (names_of gs) ≡ false
       unknown = (new_spot [] 0 n (names_of gs) k rules_of.rising e).unknown
 
-      pub destroy_absent : refusal_to_destroy n (groups_in s) ≡ some 9
+      pub destroy_absent : refusal_to_destroy n (groups_in s) ≡ Some NoGroup
       unfolding refusal_to_destroy
       destroy_absent = rw unknown
 
-      pub create_full : 8 ≤ length (groups_in s) → refusal_to_create n (groups_in s) ≡ some 11
+      pub create_full : 8 ≤ length (groups_in s) → refusal_to_create n (groups_in s) ≡ Some MostGroups
       unfolding refusal_to_create
       create_full l = rw (unknown, le-leb most_groups (length gs) l)
 
-      pub create_done : length (groups_in s) < 8 → refusal_to_create n (groups_in s) ≡ none
+      pub create_done : length (groups_in s) < 8 → refusal_to_create n (groups_in s) ≡ None
       unfolding refusal_to_create
       create_done l = rw (unknown, lt-leb most_groups (length gs) l)
 

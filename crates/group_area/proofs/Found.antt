@@ -11,7 +11,7 @@ use lib.Seq.{drop_at, drop-drop, drop-cons, get_or-append-add}
 use borrow.Author.Tests.{ltb-true, ltb-false}
 use Rattle.octets.specs.Bytes.{zeros}
 use Rattle.octets.specs.Compare.{order_of}
-use Rattle.octets.specs.declared.Order.TheVariants.{Less, Equal, Greater}
+use Rattle.std.specs.declared.cmp.Ordering.TheVariants.{Less, Equal, Greater}
 use Rattle.id.specs.declared.Id.{Id}
 use Rattle.id.specs.Id.{greatest}
 use Rattle.groups.specs.declared.Spot.TheVariants.{Known, New}

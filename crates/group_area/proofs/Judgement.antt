@@ -3,7 +3,6 @@
 use mathlib.Core.Path.{◌≡◌, refl, sym, ap, ◌∙◌}
 use mathlib.Core.Bool.{Bool, true, false, not}
 use mathlib.Core.List.{List, [], ◌∷◌, ◌++◌, append_assoc}
-use mathlib.Core.Option.{Option, some, none}
 use Prim.Native.Nat.{ℕ, zero, suc, ◌+◌, ◌-◌, ◌*◌, ◌≤◌, ◌<◌}
 use native.Mathlib.Omega.{arith}
 use lib.Dec.{eqb}
@@ -11,7 +10,8 @@ use lib.ListN.{length, take, drop, get_or, length-drop, take-append-drop}
 use lib.Seq.{length-take-le, drop-drop, get_or-take}
 use borrow.Author.Tests.{le-leb, eq-eqb, ne_eqb, eqb-true, eqb-false}
 use Rattle.octets.specs.Pick.{pick, both}
-use Rattle.octets.specs.Maybe.{◌>>=◌, ◌>>◌, need, is_none}
+use Rattle.std.proofs.Common.{is_none, Option, Some, None}
+use Rattle.octets.specs.Maybe.{◌>>=◌, ◌>>◌, need}
 use Rattle.octets.specs.Bytes.{Bytes}
 use Rattle.octets.specs.Compare.{all_zero, comes_before}
 use Rattle.octets.proofs.Laws.{both_true, bytes_take, bytes_drop, both_false, both_assoc, needed_some}
@@ -34,8 +34,8 @@ judged_from last above (suc n) s =
 
 -- the groups that are read pass
 abbrev passes : Id → List ℕ → Option (List Group) → Bool
-passes last above none = false
-passes last above (some gs) = both (names_above above (names_of gs)) (are_groups last gs)
+passes last above None = false
+passes last above (Some gs) = both (names_above above (names_of gs)) (are_groups last gs)
 
 -- the name that a region begins with
 pub name_first : (g : Group) (t : List ℕ) → is_group g ≡ true → name_in (region_bytes g ++ t) ≡ g.name
@@ -44,12 +44,12 @@ name_first g t e = ap name_in (append_assoc (name_field g.name) _ t) ∙ name_of
 
 module _ (last : Id) (above : List ℕ) (g : Group) (e : is_group g ≡ true) where
   one_more : (u : Bool) (o : Option (List Group)) → pending_up_to last g.pending ≡ u
-      → both u (both (comes_before above g.name) (passes last g.name o)) ≡ passes last above (o >>= λ gs. some (g ∷ gs))
+      → both u (both (comes_before above g.name) (passes last g.name o)) ≡ passes last above (o >>= λ gs. Some (g ∷ gs))
   unfolding names_above are_groups
-  one_more true none h = both_false (comes_before above g.name)
-  one_more true (some gs) h = rw (e, h) (both_assoc (comes_before above g.name) (names_above g.name (names_of gs)) (are_groups last gs))
-  one_more false none h = refl
-  one_more false (some gs) h = rw (e, h) (sym (both_false (both (comes_before above g.name) (names_above g.name (names_of gs)))))
+  one_more true None h = both_false (comes_before above g.name)
+  one_more true (Some gs) h = rw (e, h) (both_assoc (comes_before above g.name) (names_above g.name (names_of gs)) (are_groups last gs))
+  one_more false None h = refl
+  one_more false (Some gs) h = rw (e, h) (sym (both_false (both (comes_before above g.name) (names_above g.name (names_of gs)))))
 
 module _ (last : Id) (above : List ℕ) (n : ℕ) (s : List ℕ) (b : Bytes s) (l : length s ≡ suc n * 7220)
     (next : (a : List ℕ) → judged_from last a n (drop 7220 s) ≡ passes last a (parse_regions n (drop 7220 s))) where
@@ -59,11 +59,11 @@ module _ (last : Id) (above : List ℕ) (n : ℕ) (s : List ℕ) (b : Bytes s) (
   -- a region that is used
   used : (t : Bool) → is_region (take 7220 s) ≡ t
       → both (both t (pending_up_to last (group_in (take 7220 s)).pending)) (both (comes_before above (name_in s)) (judged_from last (name_in s) n (drop 7220 s)))
-      ≡ passes last above ((need t >> some (group_in (take 7220 s))) >>= λ g. parse_regions n (drop 7220 s) >>= λ gs. some (g ∷ gs))
+      ≡ passes last above ((need t >> Some (group_in (take 7220 s))) >>= λ g. parse_regions n (drop 7220 s) >>= λ gs. Some (g ∷ gs))
   used false e = refl
   used true e =
       let g : Group = group_in (take 7220 s) in
-      let p : parse_region (take 7220 s) ≡ some g = unfold parse_region in rw e in
+      let p : parse_region (take 7220 s) ≡ Some g = unfold parse_region in rw e in
       let r = region_bytes_lem (take 7220 s) g (bytes_take 7220 b) p in
       let m : name_in s ≡ g.name =
       ap name_in (sym (take-append-drop 7220 s) ∙ ap (λ (x : List ℕ). x ++ drop 7220 s) r.bytes) ∙ name_first g (drop 7220 s) r.rules_kept in
@@ -72,7 +72,7 @@ module _ (last : Id) (above : List ℕ) (n : ℕ) (s : List ℕ) (b : Bytes s) (
       ∙ one_more last above g r.rules_kept (pending_up_to last g.pending) (parse_regions n (drop 7220 s)) refl
 
   -- one that begins with 0 is none's
-  nameless : get_or s 0 0 ≡ 0 → parse_region (take 7220 s) ≡ none
+  nameless : get_or s 0 0 ≡ 0 → parse_region (take 7220 s) ≡ None
   unfolding parse_region
   nameless z =
       rw (region_unnamed (take 7220 s) size (zero_no_field (take 7220 s) (get_or-take 7220 s 0 0 (omega arith) ∙ z)))
@@ -80,14 +80,14 @@ module _ (last : Id) (above : List ℕ) (n : ℕ) (s : List ℕ) (b : Bytes s) (
   free_case : (u : Bool) → all_zero s ≡ u → get_or s 0 0 ≡ 0 → u ≡ passes last above (parse_regions (suc n) s)
   free_case true e z = rw (parse_free n s e) (unfold names_above are_groups in refl)
   free_case false e z =
-      ap (passes last above) (sym (parse_used n s e ∙ ap (λ (o : Option Group). o >>= λ g. parse_regions n (drop 7220 s) >>= λ gs. some (g ∷ gs)) (nameless z)))
+      ap (passes last above) (sym (parse_used n s e ∙ ap (λ (o : Option Group). o >>= λ g. parse_regions n (drop 7220 s) >>= λ gs. Some (g ∷ gs)) (nameless z)))
 
   by_first : (t : Bool) → eqb (get_or s 0 0) 0 ≡ t → judged_from last above (suc n) s ≡ passes last above (parse_regions (suc n) s)
   unfolding judged_from
   by_first true e = rw e (free_case (all_zero s) refl (eqb-true (get_or s 0 0) 0 e))
   by_first false e = rw e (used (is_region (take 7220 s)) refl ∙ ap (passes last above) (sym used_is))
     where
-      used_is : parse_regions (suc n) s ≡ ((need (is_region (take 7220 s)) >> some (group_in (take 7220 s))) >>= λ g. parse_regions n (drop 7220 s) >>= λ gs. some (g ∷ gs))
+      used_is : parse_regions (suc n) s ≡ ((need (is_region (take 7220 s)) >> Some (group_in (take 7220 s))) >>= λ g. parse_regions n (drop 7220 s) >>= λ gs. Some (g ∷ gs))
       used_is = unfold parse_region in parse_used n s (used_not_zero s (eqb-false (get_or s 0 0) 0 e))
 
 judged_is : (last : Id) (above : List ℕ) (n : ℕ) (s : List ℕ) → Bytes s → length s ≡ n * 7220
@@ -114,9 +114,9 @@ module _ (last : Id) where
   groups_pass gs h = rw (le-leb (length gs) most_groups h) (groups_case gs (are_groups last gs) refl)
 
 whole_case : (last : Id) (s : List ℕ) (o : Option (List Group)) → Bytes s → length s ≡ 57760 → parse_regions 8 s ≡ o
-    → passes last [] o ≡ not (is_none (o >>= λ gs. need (is_groups last gs) >> some gs))
-whole_case last s none b l e = refl
-whole_case last s (some gs) b l e =
+    → passes last [] o ≡ not (is_none (o >>= λ gs. need (is_groups last gs) >> Some gs))
+whole_case last s None b l e = refl
+whole_case last s (Some gs) b l e =
     sym (needed_some (is_groups last gs) gs ∙ groups_pass last gs (regions_bytes 8 s gs b l e).few)
 
 module _ (last : Id) (s : List ℕ) where

@@ -2,18 +2,16 @@
 use mathlib.Core.Path.{◌≡◌, refl, sym, ap, ◌∙◌, subst}
 use mathlib.Core.Bool.{true, not}
 use mathlib.Core.List.{List, []}
-use mathlib.Core.Option.{Option, some, none}
 use Prim.Native.Nat.{ℕ, ◌-◌, ◌*◌, ◌<◌}
 use native.Mathlib.Omega.{arith}
 use lib.ListN.{length}
-use Rattle.octets.specs.Maybe.{is_none}
+use Rattle.std.proofs.Common.{is_none, Option, Some, None}
 use Rattle.octets.specs.Bytes.{Bytes}
 use Rattle.octets.specs.Place.{area, put}
 use Rattle.id.specs.declared.Id.{Id}
 use Rattle.id.specs.Id.{greatest}
 use Rattle.groups.specs.declared.Spot.{Spot}
 use Rattle.groups.specs.declared.Spot.TheVariants.{Known, New}
-use Rattle.groups.specs.declared.NamePlace.TheVariants.{At, Absent}
 use Rattle.groups.specs.Group.{Group, is_among, is_group}
 use Rattle.groups.specs.Bytes.{region_bytes}
 use Rattle.groups.specs.Parse.{group_in}
@@ -40,7 +38,7 @@ pub record ParsedArea (last : Id) (s : List ℕ) (gs : List Group) : Type 0 wher
   pub sound : SoundArea s
   pub rules_kept : is_groups last gs ≡ true
 
-pub parsed_area : (last : Id) (s : List ℕ) (gs : List Group) → Bytes s → parse_area last s ≡ some gs → ParsedArea last s gs
+pub parsed_area : (last : Id) (s : List ℕ) (gs : List Group) → Bytes s → parse_area last s ≡ Some gs → ParsedArea last s gs
 parsed_area last s gs b e =
     let r = area_bytes_lem last s gs b e in
     record {
@@ -51,14 +49,14 @@ parsed_area last s gs b e =
 
 -- what is judged sound is
 judged_case : (last : Id) (s : List ℕ) (o : Option (List Group)) → Bytes s → parse_area last s ≡ o → not (is_none o) ≡ true → SoundArea s
-judged_case last s none b e h = absurd (let z : ◌≡◌ {A = ℕ} 0 1 = cc in omega arith)
-judged_case last s (some gs) b e h = (parsed_area last s gs b e).sound
+judged_case last s None b e h = absurd (let z : ◌≡◌ {A = ℕ} 0 1 = cc in omega arith)
+judged_case last s (Some gs) b e h = (parsed_area last s gs b e).sound
 
 pub judged_area : (last : Id) (s : List ℕ) → Bytes s → not (is_none (parse_area last s)) ≡ true → SoundArea s
 judged_area last s b h = judged_case last s (parse_area last s) b refl h
 
-pub sound_parse : (last : Id) (s : List ℕ) → SoundArea s → is_groups last (groups_in s) ≡ true → parse_area last s ≡ some (groups_in s)
-sound_parse last s h e = subst (λ (l : List ℕ). parse_area last l ≡ some (groups_in s)) (sym h.laid) (area_parse last (groups_in s) e)
+pub sound_parse : (last : Id) (s : List ℕ) → SoundArea s → is_groups last (groups_in s) ≡ true → parse_area last s ≡ Some (groups_in s)
+sound_parse last s h e = subst (λ (l : List ℕ). parse_area last l ≡ Some (groups_in s)) (sym h.laid) (area_parse last (groups_in s) e)
 
 -- the region that was found: the group of that name, sound by itself; another group of the name in its place is put_group
 pub record FoundGroup (s : List ℕ) (n : List ℕ) (k : ℕ) : Type 0 where
@@ -66,7 +64,7 @@ pub record FoundGroup (s : List ℕ) (n : List ℕ) (k : ℕ) : Type 0 where
   pub among : is_among n (names_of (groups_in s)) ≡ true
   pub region : SoundRegion (area (k * 7220) 7220 s)
   pub named_so : (group_in (area (k * 7220) 7220 s)).name ≡ n
-  pub found : find_group n (groups_in s) ≡ some (group_in (area (k * 7220) 7220 s))
+  pub found : find_group n (groups_in s) ≡ Some (group_in (area (k * 7220) 7220 s))
   pub put_there : (g : Group) → is_group g ≡ true → g.name ≡ n → put s (k * 7220) (region_bytes g) ≡ area_bytes (put_group g (groups_in s))
 
 module _ (s : List ℕ) (h : SoundArea s) (n : List ℕ) where
@@ -81,28 +79,28 @@ module _ (s : List ℕ) (h : SoundArea s) (n : List ℕ) where
         among = (known_spot 0 n (names_of (groups_in s)) k e).among;
         region = subst SoundRegion (sym q) (sound_region_lem x.group i);
         named_so = ap (λ (g : Group). g.name) w ∙ x.named_so;
-        found = x.found ∙ ap some (sym w);
+        found = x.found ∙ ap Some (sym w);
         put_there = λ g j m. replaced s h n k e g j m;
       }
 
-  found_case : (k : ℕ) (o : Spot) → spot_from 0 n (names_of (groups_in s)) ≡ o → place_in n (names_of (groups_in s)) ≡ At k → FoundGroup s n k
+  found_case : (k : ℕ) (o : Spot) → spot_from 0 n (names_of (groups_in s)) ≡ o → place_in n (names_of (groups_in s)) ≡ Some k → FoundGroup s n k
   found_case k (Known j) e f =
-      let g : At j ≡ At k = sym (place_known n (names_of (groups_in s)) j e) ∙ f in
+      let g : Some j ≡ Some k = sym (place_known n (names_of (groups_in s)) j e) ∙ f in
       let q : j ≡ k = cc in
       subst (FoundGroup s n) q (known_found j e)
   found_case k (New j) e f =
       absurd
-      (let g : Absent ≡ At k = sym (place_new [] n (names_of (groups_in s)) j (rules_of s h).rising e) ∙ f in
+      (let g : None ≡ Some k = sym (place_new [] n (names_of (groups_in s)) j (rules_of s h).rising e) ∙ f in
       let z : ◌≡◌ {A = ℕ} 0 1 = cc in
       omega arith)
 
-  pub found_group : (k : ℕ) → place_in n (names_of (groups_in s)) ≡ At k → FoundGroup s n k
+  pub found_group : (k : ℕ) → place_in n (names_of (groups_in s)) ≡ Some k → FoundGroup s n k
   found_group k e = found_case k (spot_from 0 n (names_of (groups_in s))) refl e
 
-  pub absent_group : place_in n (names_of (groups_in s)) ≡ Absent → find_group n (groups_in s) ≡ none
+  pub absent_group : place_in n (names_of (groups_in s)) ≡ None → find_group n (groups_in s) ≡ None
   absent_group e = find_unknown n (groups_in s) (absent_name n (names_of (groups_in s)) e)
 
 -- the same of the area of groups: the region at the place of a name, replaced, is that of the groups with the group put in
-pub found_place : (last : Id) (gs : List Group) (n : List ℕ) (k : ℕ) → is_groups last gs ≡ true → place_in n (names_of gs) ≡ At k → FoundGroup (area_bytes gs) n k
+pub found_place : (last : Id) (gs : List Group) (n : List ℕ) (k : ℕ) → is_groups last gs ≡ true → place_in n (names_of gs) ≡ Some k → FoundGroup (area_bytes gs) n k
 found_place last gs n k e f =
     found_group (area_bytes gs) (sound_area last gs e) n k (ap (λ (l : List Group). place_in n (names_of l)) (groups_of_area last gs e) ∙ f)

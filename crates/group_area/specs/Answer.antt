@@ -1,6 +1,7 @@
--- What the functions answer, in terms of the groups that an area holds; of a change, the refusal's number, if it is refused. Assumes nothing.
-use Rattle.std.specs.Prelude.{◌≡◌, true, List, [], ℕ, leb, length}
-use Rattle.std.proofs.Math.Option.{Option, some, none}
+-- What the functions answer, in terms of the groups that an area holds; of a change, the refusal, if it is refused. Assumes nothing.
+use Rattle.std.specs.Prelude.{◌≡◌, true, List, [], ℕ, leb, length, Option, Some, None}
+use Rattle.refusal.specs.declared.Refusal.{Refusal}
+use Rattle.refusal.specs.declared.Refusal.TheVariants.{NoGroup, GroupExists, MostGroups}
 use Rattle.octets.specs.Pick.{pick}
 use Rattle.id.specs.declared.Id.{Id}
 use Rattle.id.specs.Id.{greatest}
@@ -10,8 +11,8 @@ use Rattle.groups.specs.Area.{most_groups, names_of, is_groups, area_bytes, pars
 
 -- the groups that an area holds
 abbrev pub or_none : Option (List Group) → List Group
-or_none none = []
-or_none (some gs) = gs
+or_none None = []
+or_none (Some gs) = gs
 
 unfoldable pub groups_in : List ℕ → List Group
 groups_in s = or_none (parse_regions most_groups s)
@@ -23,18 +24,18 @@ pub record SoundArea (s : List ℕ) : Type 0 where
   pub rules_kept : is_groups greatest (groups_in s) ≡ true
 
 -- create: 10, the group exists; 11, there are 8 groups
-unfoldable pub refusal_to_create : List ℕ → List Group → Option ℕ
-refusal_to_create n gs = pick (is_among n (names_of gs)) (some 10) (pick (leb most_groups (length gs)) (some 11) none)
+unfoldable pub refusal_to_create : List ℕ → List Group → Option Refusal
+refusal_to_create n gs = pick (is_among n (names_of gs)) (Some GroupExists) (pick (leb most_groups (length gs)) (Some MostGroups) None)
 
 -- the area after it; a refusal keeps every byte
-abbrev pub created_bytes : Option ℕ → List ℕ → Id → List ℕ → List ℕ
-created_bytes none n start s = area_bytes (put_group (new_group n start) (groups_in s))
-created_bytes (some k) n start s = s
+abbrev pub created_bytes : Option Refusal → List ℕ → Id → List ℕ → List ℕ
+created_bytes None n start s = area_bytes (put_group (new_group n start) (groups_in s))
+created_bytes (Some r) n start s = s
 
 -- destroy: 9, no such group
-unfoldable pub refusal_to_destroy : List ℕ → List Group → Option ℕ
-refusal_to_destroy n gs = pick (is_among n (names_of gs)) none (some 9)
+unfoldable pub refusal_to_destroy : List ℕ → List Group → Option Refusal
+refusal_to_destroy n gs = pick (is_among n (names_of gs)) None (Some NoGroup)
 
-abbrev pub destroyed_bytes : Option ℕ → List ℕ → List ℕ → List ℕ
-destroyed_bytes none n s = area_bytes (without_group n (groups_in s))
-destroyed_bytes (some k) n s = s
+abbrev pub destroyed_bytes : Option Refusal → List ℕ → List ℕ → List ℕ
+destroyed_bytes None n s = area_bytes (without_group n (groups_in s))
+destroyed_bytes (Some r) n s = s

@@ -1,3 +1,2 @@
--- To be believed: what each function answers and leaves, and the numbers of its answers.
+-- To be believed: what each function answers and leaves.
 pub mod Answer
-pub mod Number

@@ -1,6 +1,7 @@
 // A group made and a group destroyed: the regions after it move by one.
 
 ghost use Rattle.std.specs.Prelude.{◌≡◌, ◌≤◌, length};
+ghost use Rattle.std.specs.Result.{result_err};
 ghost use Rattle.groups.specs.declared.Spot.TheVariants.{New};
 ghost use Rattle.groups.specs.Group.{longest_name};
 ghost use Rattle.groups.specs.Bytes.{region_bytes, region_size};
@@ -8,12 +9,11 @@ ghost use Rattle.groups.specs.Step.{new_group};
 ghost use Rattle.groups.specs.Answer.{spot_from};
 ghost use Rattle.groups.specs.Area.{names_of};
 ghost use Rattle.group_area.specs.Answer.{groups_in, SoundArea, refusal_to_create, created_bytes, refusal_to_destroy, destroyed_bytes};
-ghost use Rattle.group_area.specs.Number.{created_refusal, destroyed_refusal};
 
 use crate::finding::spot_of;
-use crate::{Created, Destroyed};
 use groups::{DELIVERED_AT, REGION_BYTES, Spot};
 use id::Id;
+use refusal::Refusal;
 
 // The last of the eight regions.
 const LAST_REGION: usize = 50540;
@@ -29,40 +29,40 @@ fn write_new(r: &mut [u8], name: &[u8], start: Id)
 }
 
 // At the region that the name would get.
-fn create_at(s: &mut [u8], k: usize, name: &[u8], start: Id) -> Created
+fn create_at(s: &mut [u8], k: usize, name: &[u8], start: Id) -> Result<(), Refusal>
     requires { SoundArea s.old × (1 ≤ length name.now) × (length name.now ≤ longest_name) × (spot_from 0 name.now (names_of (groups_in s.old)) ≡ New k) }
-    ensures { (created_refusal result ≡ refusal_to_create name.now (groups_in s.old)) × (s.new ≡ created_bytes (created_refusal result) name.now start s.old) }
+    ensures { (result_err result ≡ refusal_to_create name.now (groups_in s.old)) × (s.new ≡ created_bytes (result_err result) name.now start s.old) }
 {
     if s[LAST_REGION] != 0 {
-        return Created::Refused(11);
+        return Err(Refusal::MostGroups);
     }
     let at = k * REGION_BYTES;
     octets::move_within(s, at, at + REGION_BYTES, LAST_REGION - at);
     write_new(&mut s[at..at + REGION_BYTES], name, start);
-    Created::Done
+    Ok(())
 }
 
-pub fn create(s: &mut [u8], name: &[u8], start: Id) -> Created
+pub fn create(s: &mut [u8], name: &[u8], start: Id) -> Result<(), Refusal>
     requires { SoundArea s.old × (1 ≤ length name.now) × (length name.now ≤ longest_name) }
-    ensures { (created_refusal result ≡ refusal_to_create name.now (groups_in s.old)) × (s.new ≡ created_bytes (created_refusal result) name.now start s.old) }
+    ensures { (result_err result ≡ refusal_to_create name.now (groups_in s.old)) × (s.new ≡ created_bytes (result_err result) name.now start s.old) }
 {
     match spot_of(s, name) {
-        Spot::Known(_) => Created::Refused(10),
+        Spot::Known(_) => Err(Refusal::GroupExists),
         Spot::New(k) => create_at(s, k, name, start),
     }
 }
 
-pub fn destroy(s: &mut [u8], name: &[u8]) -> Destroyed
+pub fn destroy(s: &mut [u8], name: &[u8]) -> Result<(), Refusal>
     requires { SoundArea s.old }
-    ensures { (destroyed_refusal result ≡ refusal_to_destroy name.now (groups_in s.old)) × (s.new ≡ destroyed_bytes (destroyed_refusal result) name.now s.old) }
+    ensures { (result_err result ≡ refusal_to_destroy name.now (groups_in s.old)) × (s.new ≡ destroyed_bytes (result_err result) name.now s.old) }
 {
     match spot_of(s, name) {
-        Spot::New(_) => Destroyed::Absent,
+        Spot::New(_) => Err(Refusal::NoGroup),
         Spot::Known(k) => {
             let at = k * REGION_BYTES;
             octets::move_within(s, at + REGION_BYTES, at, LAST_REGION - at);
             octets::zero(s, LAST_REGION, REGION_BYTES);
-            Destroyed::Done
+            Ok(())
         }
     }
 }

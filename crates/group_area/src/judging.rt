@@ -1,8 +1,6 @@
 // Is an area sound? Each region is judged by itself, and its name is compared with the one before.
 
-ghost use Rattle.std.specs.Prelude.{◌≡◌, not, ◌+◌, ◌≤◌, length, drop, get_or};
-ghost use Rattle.octets.specs.Maybe.{is_none};
-ghost use Rattle.octets.specs.Place.{area};
+ghost use Rattle.std.specs.Prelude.{◌≡◌, not, ◌+◌, ◌≤◌, length, drop, get_or, is_none};
 ghost use Rattle.octets.specs.Compare.{comes_before};
 ghost use Rattle.groups.specs.Group.{longest_name};
 ghost use Rattle.groups.specs.Bytes.{field_bytes};
@@ -14,12 +12,12 @@ use groups::REGION_BYTES;
 use id::Id;
 
 // Is the name of the region at a place above another?
-fn is_above(s: &[u8], from: usize, size: usize, at: usize) -> bool
-    requires { (from + size ≤ length s.now) × (at + field_bytes ≤ length s.now) × (get_or s.now at 0 ≤ longest_name) }
-    ensures { result ≡ comes_before (area from size s.now) (name_in (drop at s.now)) }
+fn is_above(s: &[u8], above: &[u8], at: usize) -> bool
+    requires { (at + field_bytes ≤ length s.now) × (get_or s.now at 0 ≤ longest_name) }
+    ensures { result ≡ comes_before above.now (name_in (drop at s.now)) }
 {
     let n = octets::wide(s[at]) as usize;
-    octets::comes_before(&s[from..from + size], &s[at + 1..at + 1 + n])
+    octets::comes_before(above, &s[at + 1..at + 1 + n])
 }
 
 // A region that begins with 0 has no name, so it and all after it must be free; these are looked at once.
@@ -30,23 +28,20 @@ pub fn judge(s: &[u8], last: Id) -> bool
         return false;
     }
     let mut at = 0;
-    let mut left = MOST_GROUPS;
-    let mut from = 0;
-    let mut size = 0;
-    while 0 < left {
+    let mut above: &[u8] = b"";
+    for _ in 0..MOST_GROUPS {
         if s[at] == 0 {
             return octets::all_zero_from(s, at);
         }
         if !groups::is_region(&s[at..at + REGION_BYTES], last) {
             return false;
         }
-        if !is_above(s, from, size, at) {
+        if !is_above(s, above, at) {
             return false;
         }
-        from = at + 1;
-        size = octets::wide(s[at]) as usize;
+        let size = octets::wide(s[at]) as usize;
+        above = &s[at + 1..at + 1 + size];
         at += REGION_BYTES;
-        left -= 1;
     }
     true
 }

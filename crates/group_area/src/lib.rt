@@ -15,16 +15,3 @@ mod judging;
 pub use changing::{create, destroy};
 pub use finding::find;
 pub use judging::judge;
-
-// A group was made, or why not: a number of 01's table of refusals.
-#[derive(Clone, Copy)]
-pub enum Created {
-    Done,
-    Refused(u32),
-}
-
-#[derive(Clone, Copy)]
-pub enum Destroyed {
-    Done,
-    Absent,
-}

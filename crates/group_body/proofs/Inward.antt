@@ -3,7 +3,6 @@
 use mathlib.Core.Path.{◌≡◌, refl, sym, ap, ap₂, ◌∙◌, subst}
 use mathlib.Core.Bool.{true, not}
 use mathlib.Core.List.{List, [], ◌∷◌, ◌++◌, append_assoc}
-use mathlib.Core.Option.{Option, some, none}
 use Prim.Native.Nat.{ℕ, zero, suc, ◌+◌, ◌-◌, ◌*◌, ◌≤◌, ◌<◌}
 use native.Mathlib.Numerals.{one-add}
 use native.Mathlib.Omega.{arith}
@@ -11,7 +10,7 @@ use lib.ListN.{length, take, drop, get_or, length-append, length-drop}
 use lib.Seq.{take_at, drop_at, drop-drop, get_or_at}
 use borrow.Author.Tests.{le-leb}
 use Rattle.octets.specs.Pick.{both}
-use Rattle.octets.specs.Maybe.{is_none}
+use Rattle.std.proofs.Common.{is_none, Option, Some, None}
 use Rattle.octets.specs.Bytes.{Bytes, le, zeros}
 use Rattle.octets.specs.Place.{area, put}
 use Rattle.octets.proofs.Laws.{both_true, length_le, area_first, area_left, area_middle, length_area, get_d_area, put_append, put_all, both_of}
@@ -240,13 +239,13 @@ module _ (g : Group) (r : Rules g) where
 -- a body that is one
 pub record BodyHeld (s : List ℕ) : Type 0 where
   pub group : Group
-  pub parsed : parse_body s ≡ some group
+  pub parsed : parse_body s ≡ Some group
   pub rules_kept : Rules group
   pub parts : BodyAt s group (1 + get_or s 0 0)
 
 held_case : (s : List ℕ) (o : Option Group) → Bytes s → parse_body s ≡ o → not (is_none o) ≡ true → BodyHeld s
-held_case s none b e h = absurd (let z : ◌≡◌ {A = ℕ} 0 1 = cc in omega arith)
-held_case s (some g) b e h =
+held_case s None b e h = absurd (let z : ◌≡◌ {A = ℕ} 0 1 = cc in omega arith)
+held_case s (Some g) b e h =
     let q = body_bytes_lem s g b e in
     let r = rules g q.rules_kept in
     let x : BodyAt s g (1 + length g.name) = subst (λ (l : List ℕ). BodyAt l g (1 + length g.name)) (sym q.bytes) (body_at g r) in

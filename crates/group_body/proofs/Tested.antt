@@ -2,17 +2,18 @@
 use mathlib.Core.Path.{◌≡◌, refl, sym, ap, ap₂, ◌∙◌}
 use mathlib.Core.Bool.{Bool, true, false, not}
 use mathlib.Core.List.{List, [], ◌∷◌}
-use mathlib.Core.Option.{Option, some, none}
 use Prim.Native.Nat.{ℕ, zero, suc, ◌+◌, ◌-◌, ◌*◌, ◌≤◌, ◌<◌}
 use native.Mathlib.Omega.{arith}
 use lib.Dec.{leb, eqb}
 use lib.ListN.{length, take, drop, get_or, length-drop}
 use lib.Seq.{drop-drop}
 use borrow.Author.Tests.{leb-true, le-leb, lt-leb, leb-false, eq-eqb, ne_eqb}
-use Rattle.octets.specs.Pick.{pick, both}
-use Rattle.octets.specs.Maybe.{◌>>=◌, ◌>>◌, need, is_none}
+use Rattle.octets.specs.Pick.{both}
+use Rattle.std.proofs.Common.{is_none, Option, Some, None}
+use Rattle.octets.specs.Maybe.{◌>>=◌, ◌>>◌, need}
 use Rattle.octets.specs.Bytes.{le_value}
 use Rattle.octets.specs.Place.{Taken, area, take_bytes}
+use Rattle.octets.proofs.Options.{some_injective, none_ne_some}
 use Rattle.octets.proofs.Laws.{both_true, area_first, area_none, area_drop, needed_some}
 use Rattle.id.specs.declared.Id.{Id}
 use Rattle.id.specs.Id.{least}
@@ -22,7 +23,7 @@ use Rattle.groups.specs.Parse.{name_in, are_entries, take_name, take_names, pars
 use Rattle.group_body.specs.Answer.{is_name_at, names_at, name_end, names_end, entries_end}
 use Rattle.group_body.proofs.Packed.{take_name_lem, name_stands, end_none, end_some, names_by, take_names_lem}
 use Rattle.octets.specs.Compare.{comes_before}
-use Rattle.groups.proofs.Laws.{empty_before, first_byte_lem, name_at, taken, taken_names, value_one}
+use Rattle.groups.proofs.Laws.{empty_before, first_byte_lem, name_at, taken, value_one}
 
 -- a name at a place
 module _ (above : List ℕ) (at n : ℕ) (s : List ℕ) (e : n ≡ get_or s at 0) where
@@ -30,63 +31,66 @@ module _ (above : List ℕ) (at n : ℕ) (s : List ℕ) (e : n ≡ get_or s at 0
   unfolding is_name_at
   opened = rw (first_byte_lem at s, ← e, length-drop at s)
 
-  no_name : is_name_at (drop at s) ≡ false → name_end above at s ≡ 0
+  no_name : is_name_at (drop at s) ≡ false → name_end above at s ≡ None
   no_name f = end_none above at s (rw f)
 
-  pub end_empty : n < 1 → name_end above at s ≡ 0
+  pub end_empty : n < 1 → name_end above at s ≡ None
   end_empty h = no_name (opened ∙ rw (lt-leb 1 n h))
 
   module _ (h : 1 ≤ n) where
-    pub end_long : 16 < n → name_end above at s ≡ 0
+    pub end_long : 16 < n → name_end above at s ≡ None
     end_long k = no_name (opened ∙ rw (le-leb 1 n h, lt-leb n 16 k))
 
     module _ (k : n ≤ 16) where
-      pub end_short : length s - at - 1 < n → name_end above at s ≡ 0
+      pub end_short : length s - at - 1 < n → name_end above at s ≡ None
       end_short m = no_name (opened ∙ rw (le-leb 1 n h, le-leb n 16 k, lt-leb (1 + n) (length s - at) (omega arith)))
 
       module _ (m : n ≤ length s - at - 1) where
         whole : is_name_at (drop at s) ≡ true
         whole = opened ∙ rw (le-leb 1 n h, le-leb n 16 k, le-leb (1 + n) (length s - at) (omega arith))
 
-        pub end_low : comes_before above (name_in (drop at s)) ≡ false → name_end above at s ≡ 0
+        pub end_low : comes_before above (name_in (drop at s)) ≡ false → name_end above at s ≡ None
         end_low f = end_none above at s (rw (whole, f))
 
-        pub end_name : comes_before above (name_in (drop at s)) ≡ true → name_end above at s ≡ at + 1 + n
-        end_name f = end_some above at s (rw (whole, f)) ∙ ap (λ (i : ℕ). at + 1 + i) (sym e)
+        pub end_name : comes_before above (name_in (drop at s)) ≡ true → name_end above at s ≡ Some (at + 1 + n)
+        end_name f = end_some above at s (rw (whole, f)) ∙ ap (λ (i : ℕ). Some (at + 1 + i)) (sym e)
 
 -- a name that was found
-pub record Ends (above : List ℕ) (at : ℕ) (s : List ℕ) : Type 0 where
+pub record Ends (above : List ℕ) (at : ℕ) (s : List ℕ) (e : ℕ) : Type 0 where
   pub stands : is_name_at (drop at s) ≡ true
-  pub end : name_end above at s ≡ at + 1 + get_or s at 0
+  pub end : e ≡ at + 1 + get_or s at 0
 
 module _ (above : List ℕ) (at : ℕ) (s : List ℕ) where
-  ends_case : (t : Bool) → both (is_name_at (drop at s)) (comes_before above (name_in (drop at s))) ≡ t → (name_end above at s ≡ 0 → ⊥) → Ends above at s
-  ends_case false e n = absurd (n (end_none above at s e))
-  ends_case true e n = record { stands = (both_true (is_name_at (drop at s)) (comes_before above (name_in (drop at s))) e).0; end = end_some above at s e }
+  ends_case : (e : ℕ) (t : Bool) → both (is_name_at (drop at s)) (comes_before above (name_in (drop at s))) ≡ t → name_end above at s ≡ Some e → Ends above at s e
+  ends_case e false p q = absurd (none_ne_some e (sym (end_none above at s p) ∙ q))
+  ends_case e true p q =
+      record {
+        stands = (both_true (is_name_at (drop at s)) (comes_before above (name_in (drop at s))) p).0;
+        end = some_injective _ _ (sym q ∙ end_some above at s p);
+      }
 
-  pub ends : (name_end above at s ≡ 0 → ⊥) → Ends above at s
-  ends n = ends_case (both (is_name_at (drop at s)) (comes_before above (name_in (drop at s)))) refl n
+  pub ends : (e : ℕ) → name_end above at s ≡ Some e → Ends above at s e
+  ends e q = ends_case e (both (is_name_at (drop at s)) (comes_before above (name_in (drop at s)))) refl q
 
   -- names that are left
   names_step : (left : ℕ) → 0 < left
-      → names_end above at left s ≡ pick (eqb (name_end above at s) 0) 0 (names_end (name_in (drop at s)) (name_end above at s) (left - 1) s)
+      → names_end above at left s ≡ (name_end above at s >>= λ e. names_end (name_in (drop at s)) e (left - 1) s)
   unfolding names_end
   names_step zero h = absurd (omega arith)
   names_step (suc n) h = let q : suc n - 1 ≡ n = omega arith in rw q
 
-  module _ (left : ℕ) (h : 0 < left) (e : ℕ) (q : e ≡ name_end above at s) where
-    pub names_bad : e ≡ 0 → names_end above at left s ≡ 0
-    names_bad z = names_step left h ∙ rw (eq-eqb (name_end above at s) 0 (sym q ∙ z))
+  module _ (left : ℕ) (h : 0 < left) where
+    pub names_bad : name_end above at s ≡ None → names_end above at left s ≡ None
+    names_bad q = names_step left h ∙ rw q
 
-    pub names_next : (e ≡ 0 → ⊥) → names_end above at left s ≡ names_end (area (at + 1) (e - (at + 1)) s) e (left - 1) s
-    names_next z =
-        let x = ends (λ f. z (q ∙ f)) in
+    pub names_next : (e : ℕ) → name_end above at s ≡ Some e → names_end above at left s ≡ names_end (area (at + 1) (e - (at + 1)) s) e (left - 1) s
+    names_next e q =
+        let x = ends e q in
         let n : e - (at + 1) ≡ get_or s at 0 = omega (arith, x.end) in
         names_step left h
-        ∙ rw (ne_eqb (name_end above at s) 0 (λ f. z (q ∙ f)), ← q)
-        (ap (λ (l : List ℕ). names_end l e (left - 1) s) (name_at at (e - (at + 1)) s n))
+        ∙ rw q (ap (λ (l : List ℕ). names_end l e (left - 1) s) (name_at at (e - (at + 1)) s n))
 
-pub names_done : (above : List ℕ) (at left : ℕ) (s : List ℕ) → left ≤ 0 → names_end above at left s ≡ at
+pub names_done : (above : List ℕ) (at left : ℕ) (s : List ℕ) → left ≤ 0 → names_end above at left s ≡ Some at
 unfolding names_end
 names_done above at zero s h = refl
 names_done above at (suc n) s h = absurd (omega arith)
@@ -123,11 +127,11 @@ needed_more : {A : Type 0} (t u : Bool) (o : Option A) → not (is_none o) ≡ u
 needed_more true u o e = e
 needed_more false u o e = refl
 
-take_bytes_lem : (n at : ℕ) (s : List ℕ) → at + n ≤ length s → take_bytes n (drop at s) ≡ some (taken (area at n s) (drop (at + n) s))
+take_bytes_lem : (n at : ℕ) (s : List ℕ) → at + n ≤ length s → take_bytes n (drop at s) ≡ Some (taken (area at n s) (drop (at + n) s))
 unfolding take_bytes area
 take_bytes_lem n at s h = rw (le-leb n (length (drop at s)) (omega (arith, length-drop at s)), drop-drop n at s)
 
-take_few : (n at : ℕ) (s : List ℕ) → length s < at + n → at ≤ length s → take_bytes n (drop at s) ≡ none
+take_few : (n at : ℕ) (s : List ℕ) → length s < at + n → at ≤ length s → take_bytes n (drop at s) ≡ None
 unfolding take_bytes
 take_few n at s h k = rw (lt-leb n (length (drop at s)) (omega (arith, length-drop at s)))
 
@@ -136,9 +140,9 @@ module _ (consumers : ℕ) (most : Id) (s : List ℕ) (f : Taken → Group) wher
   abbrev after : Taken → Option Group
   after y =
       need (leb (le_value y.bytes) 256)
-      >> (need (eqb (length y.rest) (le_value y.bytes * 27)) >> (need (are_entries consumers least most (le_value y.bytes) y.rest) >> some (f y)))
+      >> (need (eqb (length y.rest) (le_value y.bytes * 27)) >> (need (are_entries consumers least most (le_value y.bytes) y.rest) >> Some (f y)))
 
-  entries_case : (t : Bool) → leb 2 (length s) ≡ t → not (is_none ((need t >> some (taken (take 2 s) (drop 2 s))) >>= after)) ≡ entries_end consumers most s
+  entries_case : (t : Bool) → leb 2 (length s) ≡ t → not (is_none ((need t >> Some (taken (take 2 s) (drop 2 s))) >>= after)) ≡ entries_end consumers most s
   unfolding entries_end area
   entries_case false e = rw e
   entries_case true e =
@@ -147,7 +151,7 @@ module _ (consumers : ℕ) (most : Id) (s : List ℕ) (f : Taken → Group) wher
       let y : Taken = taken (take 2 s) (drop 2 s) in
       rw e
       (needed_more (leb n 256) (both (eqb (length (drop 2 s)) (n * 27)) u) _
-      (needed_more (eqb (length (drop 2 s)) (n * 27)) u (need u >> some (f y)) (needed_some u (f y))))
+      (needed_more (eqb (length (drop 2 s)) (n * 27)) u (need u >> Some (f y)) (needed_some u (f y))))
 
   entries_taken : not (is_none (take_bytes 2 s >>= after)) ≡ entries_end consumers most s
   unfolding take_bytes
@@ -155,23 +159,22 @@ module _ (consumers : ℕ) (most : Id) (s : List ℕ) (f : Taken → Group) wher
 
 -- a whole body
 module _ (s : List ℕ) where
-  unnamed_case : (t : Bool) → is_name_at s ≡ t → name_end [] 0 s ≡ 0 → take_name s ≡ none
+  unnamed_case : (t : Bool) → is_name_at s ≡ t → name_end [] 0 s ≡ None → take_name s ≡ None
   unnamed_case false e z = take_name_lem s ∙ rw e
   unnamed_case true e z =
       let x = name_stands s e in
       let b : comes_before [] (name_in s) ≡ true = empty_before (name_in s) (omega (arith, x.size, x.some_bytes)) in
-      let q : name_end [] 0 s ≡ 0 + 1 + get_or s 0 0 = end_some [] 0 s (rw (e, b)) in
-      absurd (omega arith)
+      absurd (none_ne_some _ (sym z ∙ end_some [] 0 s (rw (e, b))))
 
-  pub body_unnamed : name_end [] 0 s ≡ 0 → not (is_none (parse_body s)) ≡ false
+  pub body_unnamed : name_end [] 0 s ≡ None → not (is_none (parse_body s)) ≡ false
   unfolding parse_body
   body_unnamed z = rw (unnamed_case (is_name_at s) refl z)
 
-  module _ (a : ℕ) (q : a ≡ name_end [] 0 s) (n : a ≡ 0 → ⊥) where
-    first : Ends [] 0 s
-    first = ends [] 0 s (λ f. n (q ∙ f))
+  module _ (a : ℕ) (q : name_end [] 0 s ≡ Some a) where
+    first : Ends [] 0 s a
+    first = ends [] 0 s a q
 
-    name : take_name s ≡ some (taken (name_in s) (drop a s))
+    name : take_name s ≡ Some (taken (name_in s) (drop a s))
     name =
         let p : 1 + get_or s 0 0 ≡ a = omega (arith, first.end) in
         take_name_lem s ∙ rw (first.stands, p)
@@ -187,33 +190,30 @@ module _ (s : List ℕ) where
     body_short l h = short_case (leb (a + 16) (length s)) refl l h
 
     module _ (h : 17 ≤ length s - a) (k : ℕ) (e : k ≡ get_or s (a + 16) 0) where
-      delivered : take_bytes 16 (drop a s) ≡ some (taken (area a 16 s) (drop (a + 16) s))
+      delivered : take_bytes 16 (drop a s) ≡ Some (taken (area a 16 s) (drop (a + 16) s))
       delivered = take_bytes_lem 16 a s (omega arith)
 
-      count : take_bytes 1 (drop (a + 16) s) ≡ some (taken (k ∷ []) (drop (a + 17) s))
+      count : take_bytes 1 (drop (a + 16) s) ≡ Some (taken (k ∷ []) (drop (a + 17) s))
       count =
           let i : a + 16 + 1 ≡ a + 17 = omega arith in
           let b : area (a + 16) 1 s ≡ k ∷ [] =
           area_first (a + 16) 0 s (omega arith) ∙ ap₂ (λ (x : ℕ) (l : List ℕ). x ∷ l) (sym e) (area_none (a + 16 + 1) s) in
-          take_bytes_lem 1 (a + 16) s (omega arith) ∙ ap₂ (λ (l : List ℕ) (j : ℕ). some (taken l (drop j s))) b i
+          take_bytes_lem 1 (a + 16) s (omega arith) ∙ ap₂ (λ (l : List ℕ) (j : ℕ). Some (taken l (drop j s))) b i
 
       pub body_many : 16 < k → not (is_none (parse_body s)) ≡ false
       unfolding parse_body
       body_many m = rw (name, delivered, count, value_one k, lt-leb k 16 m)
 
-      module _ (m : k ≤ 16) (b : ℕ) (r : b ≡ names_end [] (a + 17) k s) where
-        consumers : (t : Bool) → eqb b 0 ≡ t → take_names [] k (drop (a + 17) s) ≡ pick t none (some (taken_names (names_at k (drop (a + 17) s)) (drop b s)))
-        consumers t f =
-            take_names_lem [] k s (a + 17) (omega arith)
-            ∙ ap (λ (j : ℕ). names_by j (names_at k (drop (a + 17) s)) s) (sym r)
-            ∙ ap (λ (u : Bool). pick u none (some (taken_names (names_at k (drop (a + 17) s)) (drop b s)))) f
+      module _ (m : k ≤ 16) (o : Option ℕ) (r : names_end [] (a + 17) k s ≡ o) where
+        consumers : take_names [] k (drop (a + 17) s) ≡ names_by o (names_at k (drop (a + 17) s)) s
+        consumers = take_names_lem [] k s (a + 17) ∙ ap (λ (j : Option ℕ). names_by j (names_at k (drop (a + 17) s)) s) r
 
-        pub body_names : b ≡ 0 → not (is_none (parse_body s)) ≡ false
+        pub body_names : o ≡ None → not (is_none (parse_body s)) ≡ false
         unfolding parse_body
-        body_names z = rw (name, delivered, count, value_one k, le-leb k 16 m, consumers true (eq-eqb b 0 z))
+        body_names z = rw (name, delivered, count, value_one k, le-leb k 16 m, consumers, z)
 
-        pub body_entries : (b ≡ 0 → ⊥) → not (is_none (parse_body s)) ≡ entries_end k (id_from (area a 16 s)) (drop b s)
+        pub body_entries : (b : ℕ) → o ≡ Some b → not (is_none (parse_body s)) ≡ entries_end k (id_from (area a 16 s)) (drop b s)
         unfolding parse_body
-        body_entries z =
-            rw (name, delivered, count, value_one k, le-leb k 16 m, consumers false (ne_eqb b 0 z))
+        body_entries b z =
+            rw (name, delivered, count, value_one k, le-leb k 16 m, consumers, z)
             (entries_taken k (id_from (area a 16 s)) (drop b s) _)

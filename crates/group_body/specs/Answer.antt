@@ -1,7 +1,7 @@
 -- What the functions answer. Assumes nothing.
-use Rattle.std.specs.Prelude.{Bool, true, List, [], ◌∷◌, ℕ, zero, suc, ◌+◌, ◌*◌, leb, eqb, length, drop, get_or}
-use Rattle.std.proofs.Math.Option.{Option, some, none}
+use Rattle.std.specs.Prelude.{Bool, true, List, [], ◌∷◌, ℕ, zero, suc, ◌+◌, ◌*◌, leb, eqb, length, drop, get_or, Option, Some, None}
 use Rattle.octets.specs.Pick.{pick, both}
+use Rattle.octets.specs.Maybe.{◌>>=◌}
 use Rattle.octets.specs.Bytes.{le_value}
 use Rattle.octets.specs.Place.{area}
 use Rattle.id.specs.declared.Id.{Id}
@@ -13,8 +13,8 @@ use Rattle.octets.specs.Compare.{comes_before}
 
 -- a body that is read: the region has the group's bytes, or its own where there is none
 abbrev pub read_into : Option Group → List ℕ → List ℕ
-read_into none r = r
-read_into (some g) r = region_bytes g
+read_into None r = r
+read_into (Some g) r = region_bytes g
 
 -- a name of 1 to 16 bytes after its length, at the start of s
 unfoldable pub is_name_at : List ℕ → Bool
@@ -29,14 +29,14 @@ unfoldable pub are_names_at : ℕ → List ℕ → Bool
 are_names_at zero s = true
 are_names_at (suc n) s = both (is_name_at s) (are_names_at n (drop (1 + get_or s 0 0) s))
 
--- where the name at a place ends, or 0 if there is none above one
-unfoldable pub name_end : List ℕ → ℕ → List ℕ → ℕ
-name_end above at s = pick (both (is_name_at (drop at s)) (comes_before above (name_in (drop at s)))) (at + 1 + get_or s at 0) 0
+-- where the name at a place ends, if there is one above another
+unfoldable pub name_end : List ℕ → ℕ → List ℕ → Option ℕ
+name_end above at s = pick (both (is_name_at (drop at s)) (comes_before above (name_in (drop at s)))) (Some (at + 1 + get_or s at 0)) None
 
--- where so many names at a place end, rising above one, or 0
-unfoldable pub names_end : List ℕ → ℕ → ℕ → List ℕ → ℕ
-names_end above at zero s = at
-names_end above at (suc n) s = pick (eqb (name_end above at s) 0) 0 (names_end (name_in (drop at s)) (name_end above at s) n s)
+-- where so many names at a place end, if they are there and rise above one
+unfoldable pub names_end : List ℕ → ℕ → ℕ → List ℕ → Option ℕ
+names_end above at zero s = Some at
+names_end above at (suc n) s = name_end above at s >>= λ end. names_end (name_in (drop at s)) end n s
 
 -- the number of entries and the entries, to the end
 unfoldable pub entries_end : ℕ → Id → List ℕ → Bool

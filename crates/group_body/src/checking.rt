@@ -1,58 +1,50 @@
-// Is a part of a file the body of a group? A place that a search answers is never 0, so 0 says that there is none.
+// Is a part of a file the body of a group?
 
-ghost use Rattle.std.specs.Prelude.{◌≡◌, not, [], ◌+◌, ◌≤◌, length, drop};
-ghost use Rattle.octets.specs.Maybe.{is_none};
-ghost use Rattle.octets.specs.Place.{area};
+ghost use Rattle.std.specs.Prelude.{◌≡◌, not, [], ◌+◌, ◌≤◌, length, drop, is_none};
+ghost use Rattle.std.specs.Option.{IfSome};
 ghost use Rattle.groups.specs.Parse.{parse_body};
 ghost use Rattle.group_body.specs.Answer.{name_end, names_end, entries_end};
 
 use groups::{ENTRY_BYTES, LONGEST_NAME, MOST_CONSUMERS, MOST_PENDING};
 use id::Id;
 
-// Where the name at a place ends. It is above the one of size bytes that lies at from.
-fn name_end(s: &[u8], from: usize, size: usize, at: usize) -> usize
-    requires { (from + size ≤ length s.now) × (at ≤ length s.now) }
-    ensures { (result ≡ name_end (area from size s.now) at s.now) × (result ≤ length s.now) }
+// Where the name at a place ends, if it is above another.
+fn name_end(s: &[u8], above: &[u8], at: usize) -> Option<usize>
+    requires { at ≤ length s.now }
+    ensures { (result ≡ name_end above.now at s.now) × IfSome result (λ end. end ≤ length s.now) }
 {
     if s.len() <= at {
-        return 0;
+        return None;
     }
     let n = octets::wide(s[at]) as usize;
     if n < 1 {
-        return 0;
+        return None;
     }
     if LONGEST_NAME < n {
-        return 0;
+        return None;
     }
     if s.len() - at - 1 < n {
-        return 0;
+        return None;
     }
-    if !octets::comes_before(&s[from..from + size], &s[at + 1..at + 1 + n]) {
-        return 0;
+    if !octets::comes_before(above, &s[at + 1..at + 1 + n]) {
+        return None;
     }
-    at + 1 + n
+    Some(at + 1 + n)
 }
 
 // Where so many rising names at a place end.
-fn names_end(s: &[u8], at: usize, count: usize) -> usize
+fn names_end(s: &[u8], at: usize, count: usize) -> Option<usize>
     requires { at ≤ length s.now }
-    ensures { (result ≡ names_end [] at count s.now) × (result ≤ length s.now) }
+    ensures { (result ≡ names_end [] at count s.now) × IfSome result (λ end. end ≤ length s.now) }
 {
     let mut i = at;
-    let mut left = count;
-    let mut from = 0;
-    let mut size = 0;
-    while 0 < left {
-        let end = name_end(s, from, size, i);
-        if end == 0 {
-            return 0;
-        }
-        from = i + 1;
-        size = end - from;
+    let mut above: &[u8] = b"";
+    for _ in 0..count {
+        let end = name_end(s, above, i)?;
+        above = &s[i + 1..end];
         i = end;
-        left -= 1;
     }
-    i
+    Some(i)
 }
 
 // The number of entries and the entries, to the end.
@@ -76,10 +68,9 @@ fn entries_end(s: &[u8], at: usize, consumers: usize, most: Id) -> bool
 pub fn check_body(s: &[u8]) -> bool
     ensures { result ≡ not (is_none (parse_body s.now)) }
 {
-    let a = name_end(s, 0, 0, 0);
-    if a == 0 {
+    let Some(a) = name_end(s, b"", 0) else {
         return false;
-    }
+    };
     if s.len() - a < 17 {
         return false;
     }
@@ -87,9 +78,8 @@ pub fn check_body(s: &[u8]) -> bool
     if MOST_CONSUMERS < k {
         return false;
     }
-    let b = names_end(s, a + 17, k);
-    if b == 0 {
+    let Some(b) = names_end(s, a + 17, k) else {
         return false;
-    }
+    };
     entries_end(s, b, k, id::read_id(s, a))
 }

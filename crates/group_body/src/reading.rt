@@ -1,7 +1,6 @@
 // A body that is one, read into a region: each name goes to a field of 17 bytes, and zeros fill what is unused.
 
-ghost use Rattle.std.specs.Prelude.{◌≡◌, true, not, ◌+◌, ◌≤◌, length, drop};
-ghost use Rattle.octets.specs.Maybe.{is_none};
+ghost use Rattle.std.specs.Prelude.{◌≡◌, true, not, ◌+◌, ◌≤◌, length, drop, is_none};
 ghost use Rattle.octets.specs.Place.{put};
 ghost use Rattle.groups.specs.Group.{most_consumers};
 ghost use Rattle.groups.specs.Bytes.{padded, all_names, all_name_fields, region_size, fields_at, consumers_bytes};
@@ -28,13 +27,11 @@ fn read_names(s: &[u8], at: usize, count: usize, region: &mut [u8]) -> usize
 {
     let mut i = at;
     let mut to = FIELDS_AT;
-    let mut left = count;
-    while 0 < left {
+    for _ in 0..count {
         let n = 1 + octets::wide(s[i]) as usize;
         copy_padded(region, to, &s[i..i + n], FIELD_BYTES);
         i += n;
         to += FIELD_BYTES;
-        left -= 1;
     }
     octets::zero(region, to, PENDING_AT - to);
     i

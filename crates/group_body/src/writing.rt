@@ -15,11 +15,10 @@ fn names_size(region: &[u8]) -> usize
 {
     let mut size = 0;
     let mut i = FIELDS_AT;
-    let mut left = groups::consumer_count(region);
-    while 0 < left {
+    let count = groups::consumer_count(region);
+    for _ in 0..count {
         size += 1 + octets::wide(region[i]) as usize;
         i += FIELD_BYTES;
-        left -= 1;
     }
     size
 }
@@ -40,13 +39,12 @@ fn write_names(region: &[u8], d: &mut [u8], at: usize) -> usize
 {
     let mut to = at;
     let mut i = FIELDS_AT;
-    let mut left = groups::consumer_count(region);
-    while 0 < left {
+    let count = groups::consumer_count(region);
+    for _ in 0..count {
         let n = 1 + octets::wide(region[i]) as usize;
         octets::copy_in(d, to, &region[i..i + n]);
         to += n;
         i += FIELD_BYTES;
-        left -= 1;
     }
     to
 }

@@ -2,7 +2,7 @@
 use mathlib.Core.Path.{◌≡◌, refl, sym, ap, ap₂, ◌∙◌, subst}
 use mathlib.Core.Bool.{Bool, true, false}
 use mathlib.Core.List.{List, [], ◌∷◌, ◌++◌, append_assoc}
-use mathlib.Core.Option.{some}
+use Rattle.std.proofs.Common.{Some}
 use Prim.Native.Nat.{ℕ, zero, suc, ◌-◌, ◌*◌, ◌≤◌}
 use native.Mathlib.Omega.{arith}
 use lib.Dec.{eqb}
@@ -24,18 +24,18 @@ use Rattle.groups.proofs.Regions.{length_region, region_parse, region_bytes_lem}
 
 -- free regions, and one that is used
 module _ (n : ℕ) (s : List ℕ) where
-  pub parse_free : all_zero s ≡ true → parse_regions (suc n) s ≡ some []
+  pub parse_free : all_zero s ≡ true → parse_regions (suc n) s ≡ Some []
   unfolding parse_regions
   parse_free z = rw (z, parse_regions)
 
   pub parse_used : all_zero s ≡ false
-      → parse_regions (suc n) s ≡ (parse_region (take 7220 s) >>= λ g. parse_regions n (drop 7220 s) >>= λ gs. some (g ∷ gs))
+      → parse_regions (suc n) s ≡ (parse_region (take 7220 s) >>= λ g. parse_regions n (drop 7220 s) >>= λ gs. Some (g ∷ gs))
   unfolding parse_regions
   parse_used z = rw (z, parse_regions)
 
 -- regions that were written, before any number of zeros
 pub regions_parse : (last : Id) (n : ℕ) (gs : List Group) (z : ℕ) → are_groups last gs ≡ true → length gs ≤ n
-    → parse_regions n (regions gs ++ zeros z) ≡ some gs
+    → parse_regions n (regions gs ++ zeros z) ≡ Some gs
 unfolding regions
 regions_parse last zero [] z e h = unfold parse_regions in refl
 regions_parse last (suc n) [] z e h = parse_free n (zeros z) (zero_all z)
@@ -58,7 +58,7 @@ pub length_groups_area : (last : Id) (gs : List Group) → is_groups last gs ≡
 length_groups_area last gs e = let r = sound last gs e in length_area_bytes last gs r.groups r.few
 
 -- the area of groups is read as those groups
-pub area_parse : (last : Id) (gs : List Group) → is_groups last gs ≡ true → parse_area last (area_bytes gs) ≡ some gs
+pub area_parse : (last : Id) (gs : List Group) → is_groups last gs ≡ true → parse_area last (area_bytes gs) ≡ Some gs
 unfolding parse_area area_bytes
 area_parse last gs e =
     let r = sound last gs e in
@@ -74,9 +74,9 @@ free_read : (n : ℕ) (s : List ℕ) → length s ≡ n * 7220 → all_zero s �
 free_read n s l z = let e : length s ≡ n * 7220 - 0 = omega arith in all_zero_lem s z ∙ ap zeros e
 
 module _ (n : ℕ) (s : List ℕ) (gs : List Group) (b : Bytes s) (l : length s ≡ suc n * 7220)
-    (next : (hs : List Group) → parse_regions n (drop 7220 s) ≡ some hs → RegionsRead n (drop 7220 s) hs) where
+    (next : (hs : List Group) → parse_regions n (drop 7220 s) ≡ Some hs → RegionsRead n (drop 7220 s) hs) where
   read_case : (t : Bool) → all_zero s ≡ t
-      → elim t [ true ↦ some [] | false ↦ (parse_region (take 7220 s) >>= λ g. parse_regions n (drop 7220 s) >>= λ hs. some (g ∷ hs)) ] ≡ some gs
+      → elim t [ true ↦ Some [] | false ↦ (parse_region (take 7220 s) >>= λ g. parse_regions n (drop 7220 s) >>= λ hs. Some (g ∷ hs)) ] ≡ Some gs
       → RegionsRead (suc n) s gs
   unfolding regions
   read_case true z e =
@@ -97,7 +97,7 @@ module _ (n : ℕ) (s : List ℕ) (gs : List Group) (b : Bytes s) (l : length s 
             ∙ sym (append_assoc (region_bytes g) (regions hs) (zeros (suc n * 7220 - suc (length hs) * 7220)));
       })
 
-pub regions_bytes : (n : ℕ) (s : List ℕ) (gs : List Group) → Bytes s → length s ≡ n * 7220 → parse_regions n s ≡ some gs → RegionsRead n s gs
+pub regions_bytes : (n : ℕ) (s : List ℕ) (gs : List Group) → Bytes s → length s ≡ n * 7220 → parse_regions n s ≡ Some gs → RegionsRead n s gs
 unfolding parse_regions regions
 regions_bytes zero s gs b l e =
     let q : [] ≡ gs = cc in
@@ -114,11 +114,11 @@ pub record AreaRead (last : Id) (s : List ℕ) (gs : List Group) : Type 0 where
   pub bytes : s ≡ area_bytes gs
   pub rules_kept : is_groups last gs ≡ true
 
-pub area_bytes_lem : (last : Id) (s : List ℕ) (gs : List Group) → Bytes s → parse_area last s ≡ some gs → AreaRead last s gs
+pub area_bytes_lem : (last : Id) (s : List ℕ) (gs : List Group) → Bytes s → parse_area last s ≡ Some gs → AreaRead last s gs
 unfolding parse_area area_bytes
 area_bytes_lem last s gs b e =
     needed (eqb (length s) 57760) _ e λ l k.
     answered (parse_regions 8 s) _ k λ hs e1 k1.
-    needed (is_groups last hs) (some hs) k1 λ r k2.
+    needed (is_groups last hs) (Some hs) k1 λ r k2.
     let q : hs ≡ gs = cc in
     subst (AreaRead last s) q (record { bytes = (regions_bytes 8 s hs b (eqb-true (length s) 57760 l) e1).laid; rules_kept = r })

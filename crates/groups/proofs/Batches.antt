@@ -2,7 +2,7 @@
 use mathlib.Core.Path.{◌≡◌, refl, ap, ◌∙◌}
 use mathlib.Core.Bool.{true, false}
 use mathlib.Core.List.{List, [], ◌∷◌, ◌++◌}
-use mathlib.Core.Option.{some}
+use Rattle.std.proofs.Common.{Some}
 use Prim.Native.Nat.{ℕ, ◌+◌, ◌^◌, ◌≤◌, ◌<◌}
 use native.Mathlib.Omega.{arith}
 use lib.ListN.{length, length-append}
@@ -90,7 +90,7 @@ module _ (c : List ℕ) (now : ℕ) where
       deliver_all_length is (deliver c now i g) x.kept h t x.known x.above (omega arith) ∙ omega arith
 
 -- the groups keep their rules when the group that was found takes a batch
-pub deliver_all_groups : (last : Id) (gs : List Group) → is_groups last gs ≡ true → (n : List ℕ) (g : Group) → find_group n gs ≡ some g
+pub deliver_all_groups : (last : Id) (gs : List Group) → is_groups last gs ≡ true → (n : List ℕ) (g : Group) → find_group n gs ≡ Some g
     → (c : List ℕ) (now : ℕ) (is : List Id) → is_name c ≡ true → now < 2 ^ 64 → ids_above g.delivered is ≡ true → ids_up_to last is ≡ true
     → lacks_consumer c g ≡ false → length g.pending + length is ≤ 256 → is_groups last (put_group (deliver_all c now is g) gs) ≡ true
 deliver_all_groups last gs e n g f c now is h t a m k l =

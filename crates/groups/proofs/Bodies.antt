@@ -2,7 +2,7 @@
 use mathlib.Core.Path.{◌≡◌, refl, sym, ap, ap₂, ◌∙◌, subst}
 use mathlib.Core.Bool.{true}
 use mathlib.Core.List.{List, [], ◌∷◌, ◌++◌, append_assoc, append-nil}
-use mathlib.Core.Option.{some}
+use Rattle.std.proofs.Common.{Some}
 use Prim.Native.Nat.{ℕ, zero, suc, ◌*◌, ◌≤◌}
 use native.Mathlib.Omega.{arith}
 use lib.Dec.{leb, eqb}
@@ -28,7 +28,7 @@ abbrev pub taken : List ℕ → List ℕ → Taken
 taken xs ys = record { bytes = xs; rest = ys }
 
 -- bytes taken from the front
-bytes_kept : (xs ys : List ℕ) (n : ℕ) → length xs ≡ n → take_bytes n (xs ++ ys) ≡ some (taken xs ys)
+bytes_kept : (xs ys : List ℕ) (n : ℕ) → length xs ≡ n → take_bytes n (xs ++ ys) ≡ Some (taken xs ys)
 unfolding take_bytes
 bytes_kept xs ys n e =
     rw (le-leb n (length (xs ++ ys)) (omega (arith, length-append xs ys)), take_at xs ys n e, drop_at xs ys n e)
@@ -39,10 +39,10 @@ record BytesTaken (n : ℕ) (s : List ℕ) (x : Taken) : Type 0 where
   bytes : Bytes s → Bytes x.bytes
   rest_bytes : Bytes s → Bytes x.rest
 
-bytes_taken : (n : ℕ) (s : List ℕ) (x : Taken) → take_bytes n s ≡ some x → BytesTaken n s x
+bytes_taken : (n : ℕ) (s : List ℕ) (x : Taken) → take_bytes n s ≡ Some x → BytesTaken n s x
 unfolding take_bytes
 bytes_taken n s x e =
-    needed (leb n (length s)) (some (taken (take n s) (drop n s))) e λ h k.
+    needed (leb n (length s)) (Some (taken (take n s) (drop n s))) e λ h k.
     let q : taken (take n s) (drop n s) ≡ x = cc in
     subst (BytesTaken n s) q
     (record {
@@ -53,7 +53,7 @@ bytes_taken n s x e =
     })
 
 -- a name
-name_kept : (n t : List ℕ) → is_name n ≡ true → take_name (name_bytes n ++ t) ≡ some (taken n t)
+name_kept : (n t : List ℕ) → is_name n ≡ true → take_name (name_bytes n ++ t) ≡ Some (taken n t)
 unfolding take_name
 name_kept n t h =
     let k = named n h in
@@ -64,7 +64,7 @@ record NameTaken (s : List ℕ) (x : Taken) : Type 0 where
   name : Bytes s → is_name x.bytes ≡ true
   rest_bytes : Bytes s → Bytes x.rest
 
-name_taken : (s : List ℕ) (x : Taken) → take_name s ≡ some x → NameTaken s x
+name_taken : (s : List ℕ) (x : Taken) → take_name s ≡ Some x → NameTaken s x
 unfolding take_name
 name_taken [] x e = absurd (let z : ◌≡◌ {A = ℕ} 0 1 = cc in omega arith)
 name_taken (n ∷ s) x e =
@@ -82,14 +82,14 @@ abbrev pub taken_names : List (List ℕ) → List ℕ → TakenNames
 taken_names ns t = record { names = ns; rest = t }
 
 names_kept : (above : List ℕ) (ns : List (List ℕ)) (t : List ℕ) → are_names ns ≡ true → names_above above ns ≡ true
-    → take_names above (length ns) (all_names ns ++ t) ≡ some (taken_names ns t)
+    → take_names above (length ns) (all_names ns ++ t) ≡ Some (taken_names ns t)
 unfolding take_names all_names are_names names_above
 names_kept above [] t e r = refl
 names_kept above (n ∷ ns) t e r =
     let p = both_true (is_name n) (are_names ns) e in
     let q = both_true (comes_before above n) (names_above n ns) r in
     let a : (name_bytes n ++ all_names ns) ++ t ≡ name_bytes n ++ (all_names ns ++ t) = append_assoc (name_bytes n) (all_names ns) t in
-    let k : take_name ((name_bytes n ++ all_names ns) ++ t) ≡ some (taken n (all_names ns ++ t)) = ap take_name a ∙ name_kept n (all_names ns ++ t) p.0 in
+    let k : take_name ((name_bytes n ++ all_names ns) ++ t) ≡ Some (taken n (all_names ns ++ t)) = ap take_name a ∙ name_kept n (all_names ns ++ t) p.0 in
     rw (k, q.0, names_kept n ns t p.1 q.1)
 
 record NamesTaken (above : List ℕ) (n : ℕ) (s : List ℕ) (x : TakenNames) : Type 0 where
@@ -99,7 +99,7 @@ record NamesTaken (above : List ℕ) (n : ℕ) (s : List ℕ) (x : TakenNames) :
   rising : names_above above x.names ≡ true
   rest_bytes : Bytes s → Bytes x.rest
 
-names_taken : (above : List ℕ) (n : ℕ) (s : List ℕ) (x : TakenNames) → take_names above n s ≡ some x → NamesTaken above n s x
+names_taken : (above : List ℕ) (n : ℕ) (s : List ℕ) (x : TakenNames) → take_names above n s ≡ Some x → NamesTaken above n s x
 unfolding take_names all_names are_names names_above
 names_taken above zero s x e =
     let q : taken_names [] s ≡ x = cc in
@@ -127,7 +127,7 @@ unfolding le_value
 value_one x = omega arith
 
 -- a group's body is read as that group
-pub body_parse : (g : Group) → is_group g ≡ true → parse_body (body_bytes g) ≡ some g
+pub body_parse : (g : Group) → is_group g ≡ true → parse_body (body_bytes g) ≡ Some g
 unfolding parse_body body_bytes
 body_parse g e =
     let r = rules g e in
@@ -221,7 +221,7 @@ module _ (name id count : Taken) (names : TakenNames) (number : Taken) where
       }
 
 -- what is read as a group is its body
-pub body_bytes_lem : (s : List ℕ) (g : Group) → Bytes s → parse_body s ≡ some g → BodyRead s g
+pub body_bytes_lem : (s : List ℕ) (g : Group) → Bytes s → parse_body s ≡ Some g → BodyRead s g
 unfolding parse_body n read
 body_bytes_lem s g b e =
     answered (take_name s) _ e λ name e1 k1.

@@ -7,7 +7,7 @@ use native.Mathlib.Omega.{arith}
 use lib.ListN.{length, take, drop}
 use Rattle.octets.specs.Pick.{pick}
 use Rattle.octets.specs.Compare.{same, order_of, is_less, comes_before}
-use Rattle.octets.specs.declared.Order.TheVariants.{Less, Equal, Greater}
+use Rattle.std.specs.declared.cmp.Ordering.TheVariants.{Less, Equal, Greater}
 use Rattle.octets.proofs.Laws.{both_true, mirror, pick_by, order_equal, order_mirror, same_refl, same_true, both_of, never, before_trans, before_differs}
 use Rattle.groups.specs.Group.{is_name, are_names, names_above, is_among}
 use Rattle.groups.specs.Bytes.{place_of_name}

@@ -2,12 +2,12 @@
 use mathlib.Core.Path.{◌≡◌, refl, sym, ap, ◌∙◌, subst}
 use mathlib.Core.Bool.{Bool, true, false}
 use mathlib.Core.List.{List, [], ◌∷◌}
-use mathlib.Core.Option.{some}
+use Rattle.std.proofs.Common.{Some}
 use Prim.Native.Nat.{ℕ}
 use native.Mathlib.Omega.{arith}
 use Rattle.octets.specs.Pick.{pick}
 use Rattle.octets.specs.Compare.{same, order_of, comes_before}
-use Rattle.octets.specs.declared.Order.TheVariants.{Greater}
+use Rattle.std.specs.declared.cmp.Ordering.TheVariants.{Greater}
 use Rattle.octets.proofs.Laws.{both_true, both_of, same_refl, same_true, mirror, order_mirror, before_trans}
 use Rattle.id.specs.declared.Id.{Id}
 use Rattle.id.specs.Id.{greatest, at_most}
@@ -48,14 +48,14 @@ groups_greatest last gs e =
 
 -- a group that is found is one of the groups
 module _ (last : Id) where
-  kept_case : (n : List ℕ) (g h : Group) (gs : List Group) (t : Bool) → First last g gs → pick t (some g) (find_group n gs) ≡ some h
-      → (find_group n gs ≡ some h → First last h []) → First last h []
+  kept_case : (n : List ℕ) (g h : Group) (gs : List Group) (t : Bool) → First last g gs → pick t (Some g) (find_group n gs) ≡ Some h
+      → (find_group n gs ≡ Some h → First last h []) → First last h []
   kept_case n g h gs true f e r =
       let q : g ≡ h = cc in
       subst (λ (x : Group). First last x []) q (record { is_group_lem = f.is_group_lem; up_to_lem = f.up_to_lem; others = unfold are_groups in refl })
   kept_case n g h gs false f e r = r e
 
-  pub found_kept : (n : List ℕ) (gs : List Group) (h : Group) → are_groups last gs ≡ true → find_group n gs ≡ some h → First last h []
+  pub found_kept : (n : List ℕ) (gs : List Group) (h : Group) → are_groups last gs ≡ true → find_group n gs ≡ Some h → First last h []
   unfolding find_group
   found_kept n [] h e k = absurd (let z : ◌≡◌ {A = ℕ} 0 1 = cc in omega arith)
   found_kept n (g ∷ gs) h e k =
@@ -65,7 +65,7 @@ module _ (last : Id) where
 module _ (m : List ℕ) where
   skip : (g : Group) (gs hs : List Group) → find_group m gs ≡ find_group m hs → find_group m (g ∷ gs) ≡ find_group m (g ∷ hs)
   unfolding find_group
-  skip g gs hs e = ap (pick (same m g.name) (some g)) e
+  skip g gs hs e = ap (pick (same m g.name) (Some g)) e
 
   pub find_put_other : (g : Group) → same m g.name ≡ false → (gs : List Group) → find_group m (put_group g gs) ≡ find_group m gs
   find_put_other g d [] = ap (find_group m) (put_none g) ∙ find_later m g [] d
@@ -78,7 +78,7 @@ module _ (m : List ℕ) where
       ∙ sym (find_later m h hs (sym (ap (same m) (same_true g.name h.name (equal_same g.name h.name o))) ∙ d)))
       (λ o. ap (find_group m) (put_greater g h hs o) ∙ skip h (put_group g hs) hs (find_put_other g d hs))
 
-  pub find_put : (g : Group) → same m g.name ≡ true → (gs : List Group) → find_group m (put_group g gs) ≡ some g
+  pub find_put : (g : Group) → same m g.name ≡ true → (gs : List Group) → find_group m (put_group g gs) ≡ Some g
   find_put g e [] = ap (find_group m) (put_none g) ∙ find_first m g [] e
   find_put g e (h ∷ hs) =
       by_name g.name h.name
@@ -118,8 +118,8 @@ pub record FoundNamed (n : List ℕ) (gs : List Group) (g : Group) : Type 0 wher
   pub above : (a : List ℕ) → names_above a (names_of gs) ≡ true → comes_before a n ≡ true
 
 module _ (n : List ℕ) (g : Group) where
-  named_case : (h : Group) (hs : List Group) (t : Bool) → same n h.name ≡ t → pick t (some h) (find_group n hs) ≡ some g
-      → (find_group n hs ≡ some g → FoundNamed n hs g) → FoundNamed n (h ∷ hs) g
+  named_case : (h : Group) (hs : List Group) (t : Bool) → same n h.name ≡ t → pick t (Some h) (find_group n hs) ≡ Some g
+      → (find_group n hs ≡ Some g → FoundNamed n hs g) → FoundNamed n (h ∷ hs) g
   unfolding names_above
   named_case h hs true e f r =
       let q : h ≡ g = cc in
@@ -139,14 +139,14 @@ module _ (n : List ℕ) (g : Group) where
             before_trans a h.name n p.0 (x.above h.name p.1);
       }
 
-  pub found_named : (gs : List Group) → find_group n gs ≡ some g → FoundNamed n gs g
+  pub found_named : (gs : List Group) → find_group n gs ≡ Some g → FoundNamed n gs g
   unfolding find_group
   found_named [] e = absurd (let z : ◌≡◌ {A = ℕ} 0 1 = cc in omega arith)
   found_named (h ∷ hs) e = named_case h hs (same n h.name) refl e (found_named hs)
 
   -- put back as it is, it changes nothing
   put_case : (a : List ℕ) (h : Group) (hs : List Group) (t : Bool) → same n h.name ≡ t → names_above a (names_of (h ∷ hs)) ≡ true
-      → pick t (some h) (find_group n hs) ≡ some g → (find_group n hs ≡ some g → put_group g hs ≡ hs) → put_group g (h ∷ hs) ≡ h ∷ hs
+      → pick t (Some h) (find_group n hs) ≡ Some g → (find_group n hs ≡ Some g → put_group g hs ≡ hs) → put_group g (h ∷ hs) ≡ h ∷ hs
   unfolding names_above put_group
   put_case a h hs true e k f r =
       let q : h ≡ g = cc in subst (λ (x : Group). pick (same x.name h.name) (x ∷ hs) (pick (comes_before x.name h.name) (x ∷ (h ∷ hs)) (h ∷ put_group x hs)) ≡ h ∷ hs) q (rw (same_refl h.name))
@@ -156,11 +156,11 @@ module _ (n : List ℕ) (g : Group) where
       let o : order_of g.name h.name ≡ Greater = ap (λ (m : List ℕ). order_of m h.name) x.name_is ∙ order_mirror h.name n ∙ ap mirror (before_less h.name n b) in
       put_greater g h hs o ∙ ap (λ (l : List Group). h ∷ l) (r f)
 
-  put_above : (a : List ℕ) (gs : List Group) → names_above a (names_of gs) ≡ true → find_group n gs ≡ some g → put_group g gs ≡ gs
+  put_above : (a : List ℕ) (gs : List Group) → names_above a (names_of gs) ≡ true → find_group n gs ≡ Some g → put_group g gs ≡ gs
   unfolding find_group names_above
   put_above a [] k f = absurd (let z : ◌≡◌ {A = ℕ} 0 1 = cc in omega arith)
   put_above a (h ∷ hs) k f =
       put_case a h hs (same n h.name) refl k f (put_above h.name hs (both_true (comes_before a h.name) (names_above h.name (names_of hs)) k).1)
 
-  pub put_found_same : (last : Id) (gs : List Group) → is_groups last gs ≡ true → find_group n gs ≡ some g → put_group g gs ≡ gs
+  pub put_found_same : (last : Id) (gs : List Group) → is_groups last gs ≡ true → find_group n gs ≡ Some g → put_group g gs ≡ gs
   put_found_same last gs e f = put_above [] gs (sound last gs e).rising f

@@ -2,7 +2,7 @@
 use mathlib.Core.Path.{◌≡◌, refl, sym, ap, ◌∙◌}
 use mathlib.Core.Bool.{Bool, true, false, not}
 use mathlib.Core.List.{List, [], ◌∷◌, Memᴰ}
-use mathlib.Core.Option.{some}
+use Rattle.std.proofs.Common.{Some}
 use Prim.Native.Nat.{ℕ, suc, ◌+◌, ◌^◌, ◌≤◌, ◌<◌, min}
 use native.Mathlib.Omega.{arith}
 use lib.Dec.{leb}
@@ -122,16 +122,16 @@ deliver_kept c now i g e h t f b k l =
     low (at_most_refl i) (up_to_later g.delivered i g.pending (below_at_most g.delivered i b) r.up_to_lem) n)
 
 -- claim, of an entry of the group
-found_entry : (i : Id) (p : Pending) (g : Group) → Rules g → find_pending i g.pending ≡ some p → Entry g.consumers p
+found_entry : (i : Id) (p : Pending) (g : Group) → Rules g → find_pending i g.pending ≡ Some p → Entry g.consumers p
 found_entry i p g r f =
     entry g.consumers p
     (all_member (is_pending g.consumers) p g.pending (stands i g.pending p f).member (sym (entries_all g.consumers g.pending) ∙ r.entries))
 
-up_to_found : (d i : Id) (ps : List Pending) (p : Pending) → find_pending i ps ≡ some p → pending_up_to d ps ≡ true → at_most p.id d ≡ true
+up_to_found : (d i : Id) (ps : List Pending) (p : Pending) → find_pending i ps ≡ Some p → pending_up_to d ps ≡ true → at_most p.id d ≡ true
 up_to_found d i ps p f e = all_member (λ q. at_most q.id d) p ps (stands i ps p f).member (sym (up_to_all d ps) ∙ e)
 
 pub claim_kept : (c : List ℕ) (now : ℕ) (i : Id) (p : Pending) (g : Group) → is_group g ≡ true → is_name c ≡ true → now < 2 ^ 64
-    → find_pending i g.pending ≡ some p → lacks_consumer c g ≡ false → is_group (claim c now p g) ≡ true
+    → find_pending i g.pending ≡ Some p → lacks_consumer c g ≡ false → is_group (claim c now p g) ≡ true
 unfolding claim with_consumer
 claim_kept c now i p g e h t f k =
     let r = rules g e in
@@ -195,7 +195,7 @@ module _ (last : Id) (g : Group) (u : pending_up_to last g.pending ≡ true) whe
   unfolding deliver
   deliver_up_to c now i h = up_to_put last _ g.pending h u
 
-  pub claim_up_to : (c : List ℕ) (now : ℕ) (i : Id) (p : Pending) → find_pending i g.pending ≡ some p
+  pub claim_up_to : (c : List ℕ) (now : ℕ) (i : Id) (p : Pending) → find_pending i g.pending ≡ Some p
       → pending_up_to last (claim c now p g).pending ≡ true
   unfolding claim
   claim_up_to c now i p f = up_to_put last _ g.pending (up_to_found last i g.pending p f u) u
@@ -220,7 +220,7 @@ pub record OneConsumer (g : Group) (i : Id) (p : Pending) : Type 0 where
   pub only : (q : Pending) → Memᴰ q g.pending → q.id ≡ i → q ≡ p
   pub among : is_among p.consumer g.consumers ≡ true
 
-pub one_consumer : (g : Group) (i : Id) (p : Pending) → is_group g ≡ true → find_pending i g.pending ≡ some p → OneConsumer g i p
+pub one_consumer : (g : Group) (i : Id) (p : Pending) → is_group g ≡ true → find_pending i g.pending ≡ Some p → OneConsumer g i p
 one_consumer g i p e f =
     let r = rules g e in
     let s = stands i g.pending p f in

@@ -3,13 +3,13 @@
 use mathlib.Core.Path.{◌≡◌, refl, sym, ap, ◌∙◌, subst}
 use mathlib.Core.Bool.{Bool, true, false}
 use mathlib.Core.List.{List, [], ◌∷◌, ◌++◌}
-use mathlib.Core.Option.{some, none}
+use Rattle.std.proofs.Common.{Some, None}
 use Prim.Native.Nat.{ℕ, suc, ◌+◌, ◌-◌, ◌≤◌, ◌<◌}
 use native.Mathlib.Omega.{arith}
 use lib.ListN.{length, take, drop}
 use Rattle.octets.specs.Pick.{pick}
 use Rattle.octets.specs.Compare.{same, order_of, is_less, comes_before}
-use Rattle.octets.specs.declared.Order.TheVariants.{Less, Equal, Greater}
+use Rattle.std.specs.declared.cmp.Ordering.TheVariants.{Less, Equal, Greater}
 use Rattle.octets.proofs.Laws.{order_equal, never, before_differs}
 use Rattle.id.specs.declared.Id.{Id}
 use Rattle.id.specs.Id.{Fits64}
@@ -46,7 +46,7 @@ unfolding put_group
 put_none g = refl
 
 module _ (n : List ℕ) (h : Group) (hs : List Group) where
-  pub find_first : same n h.name ≡ true → find_group n (h ∷ hs) ≡ some h
+  pub find_first : same n h.name ≡ true → find_group n (h ∷ hs) ≡ Some h
   unfolding find_group
   find_first e = rw e
 
@@ -68,7 +68,7 @@ pub record StandsAt (k : ℕ) (n : List ℕ) (gs : List Group) : Type 0 where
   pub within : k < length gs
   pub named_so : group.name ≡ n
   pub split : gs ≡ take k gs ++ (group ∷ drop (suc k) gs)
-  pub found : find_group n gs ≡ some group
+  pub found : find_group n gs ≡ Some group
   pub put_there : (h : Group) → h.name ≡ n → put_group h gs ≡ take k gs ++ (h ∷ drop (suc k) gs)
   pub without : without_group n gs ≡ take k gs ++ drop (suc k) gs
 
@@ -194,11 +194,11 @@ module _ (n : List ℕ) (gs : List Group) (k : ℕ) where
 
 -- no group has the name
 unknown_case : (n : List ℕ) (g : Group) (gs : List Group) (t : Bool) → same n g.name ≡ t → pick t true (is_among n (names_of gs)) ≡ false
-    → (is_among n (names_of gs) ≡ false → find_group n gs ≡ none) → find_group n (g ∷ gs) ≡ none
+    → (is_among n (names_of gs) ≡ false → find_group n gs ≡ None) → find_group n (g ∷ gs) ≡ None
 unknown_case n g gs true e h r = absurd (never refl h)
 unknown_case n g gs false e h r = find_later n g gs e ∙ r h
 
-pub find_unknown : (n : List ℕ) (gs : List Group) → is_among n (names_of gs) ≡ false → find_group n gs ≡ none
+pub find_unknown : (n : List ℕ) (gs : List Group) → is_among n (names_of gs) ≡ false → find_group n gs ≡ None
 unfolding is_among
 find_unknown n [] e = unfold find_group in refl
 find_unknown n (g ∷ gs) e = unknown_case n g gs (same n g.name) refl e (find_unknown n gs)

@@ -11,7 +11,7 @@ use borrow.Author.Tests.{leb-true, le-leb}
 use Rattle.octets.specs.Pick.{pick, both}
 use Rattle.octets.specs.Bytes.{Bytes}
 use Rattle.octets.specs.Compare.{same, order_of, comes_before}
-use Rattle.octets.specs.declared.Order.TheVariants.{Less}
+use Rattle.std.specs.declared.cmp.Ordering.TheVariants.{Less}
 use Rattle.octets.proofs.Laws.{both_true, same_refl, same_true, both_of, never, are_bytes_lem, bytes_are, is_less_lem, before_trans, before_differs}
 use Rattle.groups.specs.Group.{is_name, are_names, names_above, rising_names, is_among}
 use Rattle.groups.specs.Bytes.{place_of_name}

@@ -4,13 +4,13 @@ use mathlib.Core.Bool.{Bool, true, false}
 use mathlib.Core.Logic.{⊎_elim}
 use mathlib.Core.List.Memᴰ
 use mathlib.Core.List.{List, [], ◌∷◌, ◌++◌, Memᴰ}
-use mathlib.Core.Option.{some, none}
+use Rattle.std.proofs.Common.{Some, None}
 use Prim.Native.Nat.{ℕ, suc, ◌+◌, ◌≤◌, ◌<◌}
 use native.Mathlib.Omega.{arith}
 use lib.ListN.{length, take, drop, length-append, length-take, length-drop}
 use Rattle.octets.specs.Pick.{pick, both}
 use Rattle.octets.specs.Compare.{same, is_less}
-use Rattle.octets.specs.declared.Order.TheVariants.{Less, Equal, Greater}
+use Rattle.std.specs.declared.cmp.Ordering.TheVariants.{Less, Equal, Greater}
 use Rattle.octets.proofs.Laws.{both_true, mirror, both_of, never, is_equal_lem}
 use Rattle.id.specs.declared.Id.{Id}
 use Rattle.id.specs.Id.{id_order, below, at_most, same_id}
@@ -158,7 +158,7 @@ pub record Stands (i : Id) (ps : List Pending) (p : Pending) : Type 0 where
   pub member : Memᴰ p ps
 
 stands_case : (i : Id) (h : Pending) (ps : List Pending) (p : Pending) (t : Bool) → same_id h.id i ≡ t
-    → pick t (some h) (find_pending i ps) ≡ some p → (find_pending i ps ≡ some p → Stands i ps p) → Stands i (h ∷ ps) p
+    → pick t (Some h) (find_pending i ps) ≡ Some p → (find_pending i ps ≡ Some p → Stands i ps p) → Stands i (h ∷ ps) p
 unfolding place_of_id without_pending
 stands_case i h ps p true e f r =
     let x : h ≡ p = cc in
@@ -181,24 +181,24 @@ stands_case i h ps p false e f r =
       member = Memᴰ.tail x.member;
     }
 
-pub stands : (i : Id) (ps : List Pending) (p : Pending) → find_pending i ps ≡ some p → Stands i ps p
+pub stands : (i : Id) (ps : List Pending) (p : Pending) → find_pending i ps ≡ Some p → Stands i ps p
 unfolding find_pending
 stands i [] p e = absurd (let z : ◌≡◌ {A = ℕ} 0 1 = cc in omega arith)
 stands i (h ∷ ps) p e = stands_case i h ps p (same_id h.id i) refl e (stands i ps p)
 
 -- none is found
-absent_case : (i : Id) (h : Pending) (ps : List Pending) (t : Bool) → pick t (some h) (find_pending i ps) ≡ none
-    → (find_pending i ps ≡ none → without_pending i ps ≡ ps) → pick t ps (h ∷ without_pending i ps) ≡ h ∷ ps
+absent_case : (i : Id) (h : Pending) (ps : List Pending) (t : Bool) → pick t (Some h) (find_pending i ps) ≡ None
+    → (find_pending i ps ≡ None → without_pending i ps ≡ ps) → pick t ps (h ∷ without_pending i ps) ≡ h ∷ ps
 absent_case i h ps true f r = absurd (let z : ◌≡◌ {A = ℕ} 0 1 = cc in omega arith)
 absent_case i h ps false f r = ap (λ (l : List Pending). h ∷ l) (r f)
 
-pub without_absent : (i : Id) (ps : List Pending) → find_pending i ps ≡ none → without_pending i ps ≡ ps
+pub without_absent : (i : Id) (ps : List Pending) → find_pending i ps ≡ None → without_pending i ps ≡ ps
 unfolding find_pending without_pending
 without_absent i [] e = refl
 without_absent i (h ∷ ps) e = absent_case i h ps (same_id h.id i) e (without_absent i ps)
 
 -- an ID that is found lies above what the entries rise above
-pub found_above : (a i : Id) (ps : List Pending) (p : Pending) → pending_above a ps ≡ true → find_pending i ps ≡ some p → below a i ≡ true
+pub found_above : (a i : Id) (ps : List Pending) (p : Pending) → pending_above a ps ≡ true → find_pending i ps ≡ Some p → below a i ≡ true
 found_above a i ps p e f =
     let s = stands i ps p f in
     rw s.same_id_lem at (all_member (λ q. below a q.id) p ps s.member (above_all a ps e))
@@ -206,8 +206,8 @@ found_above a i ps p e f =
 -- an entry gives way to another of its ID, at its place
 module _ (i : Id) (q : Pending) (same_id_lem : q.id ≡ i) where
   put_case : (a : Id) (h : Pending) (ps : List Pending) (p : Pending) (t : Bool) → same_id h.id i ≡ t
-      → pending_above a (h ∷ ps) ≡ true → pick t (some h) (find_pending i ps) ≡ some p
-      → (find_pending i ps ≡ some p → put_pending q ps ≡ take (place_of_id i ps) ps ++ (q ∷ drop (suc (place_of_id i ps)) ps))
+      → pending_above a (h ∷ ps) ≡ true → pick t (Some h) (find_pending i ps) ≡ Some p
+      → (find_pending i ps ≡ Some p → put_pending q ps ≡ take (place_of_id i ps) ps ++ (q ∷ drop (suc (place_of_id i ps)) ps))
       → put_pending q (h ∷ ps) ≡ take (place_of_id i (h ∷ ps)) (h ∷ ps) ++ (q ∷ drop (suc (place_of_id i (h ∷ ps))) (h ∷ ps))
   unfolding place_of_id
   put_case a h ps p true e r f g =
@@ -218,14 +218,14 @@ module _ (i : Id) (q : Pending) (same_id_lem : q.id ≡ i) where
       let b : below h.id q.id ≡ true = rw same_id_lem (found_above h.id i ps p (above_of a h ps r).1 f) in
       rw (e, k) (put_greater q h ps (after h.id q.id b) ∙ ap (λ (l : List Pending). h ∷ l) (g f))
 
-  pub put_found : (a : Id) (ps : List Pending) (p : Pending) → pending_above a ps ≡ true → find_pending i ps ≡ some p
+  pub put_found : (a : Id) (ps : List Pending) (p : Pending) → pending_above a ps ≡ true → find_pending i ps ≡ Some p
       → put_pending q ps ≡ take (place_of_id i ps) ps ++ (q ∷ drop (suc (place_of_id i ps)) ps)
   unfolding find_pending
   put_found a [] p e f = absurd (let z : ◌≡◌ {A = ℕ} 0 1 = cc in omega arith)
   put_found a (h ∷ ps) p e f =
       put_case a h ps p (same_id h.id i) refl e f (put_found h.id ps p (above_of a h ps e).1)
 
-  pub length_put_found : (a : Id) (ps : List Pending) (p : Pending) → pending_above a ps ≡ true → find_pending i ps ≡ some p
+  pub length_put_found : (a : Id) (ps : List Pending) (p : Pending) → pending_above a ps ≡ true → find_pending i ps ≡ Some p
       → length (put_pending q ps) ≡ length ps
   length_put_found a ps p e f =
       let k : ℕ = place_of_id i ps in

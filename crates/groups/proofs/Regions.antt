@@ -2,7 +2,7 @@
 use mathlib.Core.Path.{◌≡◌, refl, sym, ap, ap₂, ◌∙◌, subst}
 use mathlib.Core.Bool.{Bool, true, false}
 use mathlib.Core.List.{List, [], ◌++◌, append_assoc, append-nil}
-use mathlib.Core.Option.{some}
+use Rattle.std.proofs.Common.{Some}
 use Prim.Native.Nat.{ℕ, ◌-◌, ◌*◌, ◌≤◌}
 use native.Mathlib.Omega.{arith}
 use lib.Dec.{leb, eqb}
@@ -241,7 +241,7 @@ module _ (s : List ℕ) (b : Bytes s) (t : Tested s) where
       }
 
 -- a group's region is read as that group
-pub region_parse : (g : Group) → is_group g ≡ true → parse_region (region_bytes g) ≡ some g
+pub region_parse : (g : Group) → is_group g ≡ true → parse_region (region_bytes g) ≡ Some g
 unfolding parse_region
 region_parse g e = let r = rules g e in rw (is_region_lem g r, group_of_region g r)
 
@@ -250,12 +250,12 @@ pub record RegionRead (s : List ℕ) (g : Group) : Type 0 where
   pub bytes : s ≡ region_bytes g
   pub rules_kept : is_group g ≡ true
 
-read_case : (s : List ℕ) (g : Group) (t : Bool) → Bytes s → is_region s ≡ t → (need t >> some (group_in s)) ≡ some g → RegionRead s g
+read_case : (s : List ℕ) (g : Group) (t : Bool) → Bytes s → is_region s ≡ t → (need t >> Some (group_in s)) ≡ Some g → RegionRead s g
 read_case s g false b e q = absurd (let z : ◌≡◌ {A = ℕ} 0 1 = cc in omega arith)
 read_case s g true b e q =
     let p : group_in s ≡ g = cc in
     subst (RegionRead s) p (record { bytes = region_laid s b (tested s e); rules_kept = is_group_lem (group_in s) (region_rules s b (tested s e)) })
 
-pub region_bytes_lem : (s : List ℕ) (g : Group) → Bytes s → parse_region s ≡ some g → RegionRead s g
+pub region_bytes_lem : (s : List ℕ) (g : Group) → Bytes s → parse_region s ≡ Some g → RegionRead s g
 unfolding parse_region
 region_bytes_lem s g b q = read_case s g (is_region s) b refl q

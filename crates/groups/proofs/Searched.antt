@@ -2,7 +2,7 @@
 use mathlib.Core.Path.{◌≡◌, refl, sym, ap, ◌∙◌}
 use mathlib.Core.Bool.{Bool, true, false}
 use mathlib.Core.List.{List, [], ◌∷◌}
-use mathlib.Core.Option.{Option, some, none}
+use Rattle.std.proofs.Common.{Option, Some, None}
 use Prim.Native.Nat.{ℕ, zero, suc, ◌+◌, ◌-◌, ◌≤◌, ◌<◌}
 use native.Mathlib.Nat.{zero-add}
 use native.Mathlib.Omega.{arith}
@@ -14,15 +14,14 @@ use Rattle.octets.specs.Pick.{pick, both}
 use Rattle.octets.specs.Bytes.{le_value}
 use Rattle.octets.specs.Place.{area}
 use Rattle.octets.specs.Compare.{same, order_of}
-use Rattle.octets.specs.declared.Order.TheVariants.{Less, Equal, Greater}
+use Rattle.std.specs.declared.cmp.Ordering.TheVariants.{Less, Equal, Greater}
 use Rattle.octets.proofs.Laws.{both_true, area_drop}
 use Rattle.id.specs.declared.Id.{Id}
 use Rattle.id.specs.Id.{below, same_id}
 use Rattle.id.specs.Bytes.{id_from}
 use Rattle.groups.specs.declared.Spot.TheVariants.{Known, New}
 use Rattle.groups.specs.declared.PendingEntry.{PendingEntry}
-use Rattle.groups.specs.declared.PendingEntry.TheVariants.{Entry, Missing}
-use Rattle.groups.specs.declared.NextEntry.TheVariants.{Given}
+use Rattle.groups.specs.declared.NextEntry.{NextEntry}
 use Rattle.groups.specs.Group.{Pending, Group, names_above, is_among, is_pending, are_pending}
 use Rattle.groups.specs.Bytes.{place_of_name}
 use Rattle.groups.specs.Parse.{name_in, names_in, entry_id, pending_in, all_pending_in, consumer_count_in, pending_count_in, group_in}
@@ -95,8 +94,15 @@ module _ (k : ℕ) (n : List ℕ) (left at : ℕ) (s : List ℕ) where
       go zero q = unfold spot_from names_in in refl
       go (suc m) q = absurd (omega arith)
 
+-- what was found, by its parts
+abbrev pub held_at : ℕ → ℕ → ℕ → ℕ → PendingEntry
+held_at k consumer time count = record { place = k; consumer = consumer; time = time; count = count }
+
+abbrev pub next_at : Id → ℕ → ℕ → NextEntry
+next_at i time count = record { id = i; time = time; count = count }
+
 -- an ID's entry among the entries that are left
-abbrev pub held_from : List (List ℕ) → ℕ → Id → List Pending → PendingEntry
+abbrev pub held_from : List (List ℕ) → ℕ → Id → List Pending → Option PendingEntry
 held_from cs k i ps = held_as cs (k + place_of_id i ps) (find_pending i ps)
 
 pub held_start : (s : List ℕ) (n : ℕ) (i : Id) → n ≡ length (group_in s).pending
@@ -127,7 +133,7 @@ module _ (cs : List (List ℕ)) (k : ℕ) (i : Id) (left at : ℕ) (s : List ℕ
   left_kept e = (both_true (is_pending cs (pending_in cs (drop at s))) (are_pending cs (all_pending_in (left - 1) cs (drop (at + 27) s))) (rw (pending_step left cs at s h) at e)).1
 
   pub held_found : names_above [] cs ≡ true → are_pending cs (all_pending_in left cs (drop at s)) ≡ true → same_id (id_from (area at 16 s)) i ≡ true
-      → held_from cs k i (all_pending_in left cs (drop at s)) ≡ Entry k (get_or s (at + 16) 0) (le_value (area (at + 17) 8 s)) (le_value (area (at + 25) 2 s))
+      → held_from cs k i (all_pending_in left cs (drop at s)) ≡ Some (held_at k (get_or s (at + 16) 0) (le_value (area (at + 17) 8 s)) (le_value (area (at + 25) 2 s)))
   unfolding p later are_pending
   held_found r a e =
       let x = both_true (is_pending cs p) (are_pending cs later) (rw (pending_step left cs at s h) at a) in
@@ -139,18 +145,18 @@ module _ (cs : List (List ℕ)) (k : ℕ) (i : Id) (left at : ℕ) (s : List ℕ
       let q : k + 0 ≡ k = omega arith in
       ap (held_from cs k i) (pending_step left cs at s h)
       ∙ held_here e
-      ∙ (λ j. Entry (q j) (c j) (t j) (n j))
+      ∙ (λ j. Some (held_at (q j) (c j) (t j) (n j)))
     where
-      held_here : same_id (id_from (area at 16 s)) i ≡ true → held_from cs k i (p ∷ later) ≡ Entry (k + 0) (place_of_name p.consumer cs) p.time p.count
+      held_here : same_id (id_from (area at 16 s)) i ≡ true → held_from cs k i (p ∷ later) ≡ Some (held_at (k + 0) (place_of_name p.consumer cs) p.time p.count)
       held_here f = unfold place_of_id find_pending in (rw (id_of_lem cs at s, f))
 
-pub held_done : (cs : List (List ℕ)) (k : ℕ) (i : Id) (left at : ℕ) (s : List ℕ) → left ≤ 0 → held_from cs k i (all_pending_in left cs (drop at s)) ≡ Missing
+pub held_done : (cs : List (List ℕ)) (k : ℕ) (i : Id) (left at : ℕ) (s : List ℕ) → left ≤ 0 → held_from cs k i (all_pending_in left cs (drop at s)) ≡ None
 unfolding find_pending
 held_done cs k i left at s h = ap (held_from cs k i) (pending_done left cs (drop at s) h)
 
 -- a consumer's next entry among the entries that are left
 next_case : (after : Id) (p : Pending) (xs : List Pending) (t : Bool)
-    → first_above after (pick t (p ∷ xs) xs) ≡ pick (both t (below after p.id)) (some p) (first_above after xs)
+    → first_above after (pick t (p ∷ xs) xs) ≡ pick (both t (below after p.id)) (Some p) (first_above after xs)
 unfolding first_above
 next_case after p xs true = refl
 next_case after p xs false = refl
@@ -159,7 +165,7 @@ abbrev pub next_from : List ℕ → Id → List Pending → Option Pending
 next_from c after ps = first_above after (pending_of c ps)
 
 next_step : (c : List ℕ) (after : Id) (p : Pending) (ps : List Pending)
-    → next_from c after (p ∷ ps) ≡ pick (both (same c p.consumer) (below after p.id)) (some p) (next_from c after ps)
+    → next_from c after (p ∷ ps) ≡ pick (both (same c p.consumer) (below after p.id)) (Some p) (next_from c after ps)
 unfolding pending_of
 next_step c after p ps = next_case after p (pending_of c ps) (same c p.consumer)
 
@@ -167,12 +173,12 @@ next_step c after p ps = next_case after p (pending_of c ps) (same c p.consumer)
 module _ (cs : List (List ℕ)) (rising : names_above [] cs ≡ true) (k : ℕ) (low : k < length cs) (after : Id) (left at : ℕ) (s : List ℕ) (h : 0 < left) where
   next_tested : (t : Bool) → both (eqb (get_or (drop at s) 16 0) k) (below after (entry_id (drop at s))) ≡ t
       → next_from (get_or cs k []) after (all_pending_in left cs (drop at s))
-      ≡ pick t (some (pending_in cs (drop at s))) (next_from (get_or cs k []) after (all_pending_in (left - 1) cs (drop (at + 27) s)))
+      ≡ pick t (Some (pending_in cs (drop at s))) (next_from (get_or cs k []) after (all_pending_in (left - 1) cs (drop (at + 27) s)))
   next_tested t e =
       let x : ℕ = get_or (drop at s) 16 0 in
       ap (next_from (get_or cs k []) after) (pending_step left cs at s h)
       ∙ next_step (get_or cs k []) after (pending_in cs (drop at s)) (all_pending_in (left - 1) cs (drop (at + 27) s))
-      ∙ ap (λ (b : Bool). pick b (some (pending_in cs (drop at s))) (next_from (get_or cs k []) after (all_pending_in (left - 1) cs (drop (at + 27) s))))
+      ∙ ap (λ (b : Bool). pick b (Some (pending_in cs (drop at s))) (next_from (get_or cs k []) after (all_pending_in (left - 1) cs (drop (at + 27) s))))
       (ap (λ (b : Bool). both b (below after (pending_in cs (drop at s)).id)) (same_in ∙ same_place cs rising k x low) ∙ id_in_lem ∙ e)
     where
       same_in : same (get_or cs k []) (pending_in cs (drop at s)).consumer ≡ same (get_or cs k []) (get_or cs (get_or (drop at s) 16 0) [])
@@ -187,16 +193,16 @@ module _ (cs : List (List ℕ)) (rising : names_above [] cs ≡ true) (k : ℕ) 
 
   pub next_found : both (eqb (get_or (drop at s) 16 0) k) (below after (entry_id (drop at s))) ≡ true
       → next_from (get_or cs k []) after (all_pending_in left cs (drop at s))
-      ≡ entry_given (get_or cs k []) (Given (id_from (area at 16 s)) (le_value (area (at + 17) 8 s)) (le_value (area (at + 25) 2 s)))
+      ≡ entry_given (get_or cs k []) (Some (next_at (id_from (area at 16 s)) (le_value (area (at + 17) 8 s)) (le_value (area (at + 25) 2 s))))
   next_found e =
       let i = id_of_lem cs at s in
       let x : get_or (drop at s) 16 0 ≡ k = eqb-true (get_or (drop at s) 16 0) k (both_true (eqb (get_or (drop at s) 16 0) k) (below after (entry_id (drop at s))) e).0 in
       let c : (pending_in cs (drop at s)).consumer ≡ get_or cs k [] = consumer_of cs at s ∙ ap (λ (j : ℕ). get_or cs j []) (sym (get_or-drop at s 16 0) ∙ x) in
       let t = time_of cs at s in
       let n = count_of_lem cs at s in
-      next_tested true e ∙ (λ j. some (record { id = i j; consumer = c j; time = t j; count = n j }))
+      next_tested true e ∙ (λ j. Some (record { id = i j; consumer = c j; time = t j; count = n j }))
 
-pub next_done : (c : List ℕ) (after : Id) (cs : List (List ℕ)) (left at : ℕ) (s : List ℕ) → left ≤ 0 → next_from c after (all_pending_in left cs (drop at s)) ≡ none
+pub next_done : (c : List ℕ) (after : Id) (cs : List (List ℕ)) (left at : ℕ) (s : List ℕ) → left ≤ 0 → next_from c after (all_pending_in left cs (drop at s)) ≡ None
 unfolding pending_of first_above
 next_done c after cs left at s h = ap (next_from c after) (pending_done left cs (drop at s) h)
 
@@ -206,6 +212,6 @@ unfolding next_pending
 next_start s n c after e = ap (next_from c after) (pending_from s n e)
 
 -- an unknown consumer has none
-pub next_unknown : (c : List ℕ) (after : Id) (g : Group) → Rules g → is_among c g.consumers ≡ false → next_pending c after g ≡ none
+pub next_unknown : (c : List ℕ) (after : Id) (g : Group) → Rules g → is_among c g.consumers ≡ false → next_pending c after g ≡ None
 unfolding next_pending first_above
 next_unknown c after g r e = ap (first_above after) (none_of c g.consumers g.pending e r.entries)

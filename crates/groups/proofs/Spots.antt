@@ -1,4 +1,5 @@
 -- Where a name stands among rising names, or would be put. Assumes nothing.
+use Rattle.std.proofs.Common.{Some, None}
 use mathlib.Core.Path.{◌≡◌, refl, sym, ap, ◌∙◌, subst}
 use mathlib.Core.Bool.{Bool, true, false}
 use mathlib.Core.List.{List, [], ◌∷◌, ◌++◌}
@@ -11,7 +12,6 @@ use Rattle.octets.specs.Pick.{pick}
 use Rattle.octets.specs.Compare.{same, is_less, comes_before}
 use Rattle.octets.proofs.Laws.{both_true, same_refl, same_true, both_of, never}
 use Rattle.groups.specs.declared.Spot.TheVariants.{Known, New}
-use Rattle.groups.specs.declared.NamePlace.TheVariants.{At, Absent}
 use Rattle.groups.specs.Group.{Pending, names_above, is_among, is_pending, are_pending}
 use Rattle.groups.specs.Bytes.{place_of_name}
 use Rattle.groups.specs.Step.{with_name, pending_of}
@@ -84,14 +84,14 @@ new_spot a j n (m ∷ ms) k r e =
     })
 
 -- find consumer
-pub place_known : (n : List ℕ) (ns : List (List ℕ)) (k : ℕ) → spot_from 0 n ns ≡ Known k → place_in n ns ≡ At k
+pub place_known : (n : List ℕ) (ns : List (List ℕ)) (k : ℕ) → spot_from 0 n ns ≡ Known k → place_in n ns ≡ Some k
 unfolding place_in
 place_known n ns k e =
     let x = known_spot 0 n ns k e in
     let q : place_of_name n ns ≡ k = omega (arith, x.place) in
     rw (x.among, q)
 
-pub place_new : (a : List ℕ) (n : List ℕ) (ns : List (List ℕ)) (k : ℕ) → names_above a ns ≡ true → spot_from 0 n ns ≡ New k → place_in n ns ≡ Absent
+pub place_new : (a : List ℕ) (n : List ℕ) (ns : List (List ℕ)) (k : ℕ) → names_above a ns ≡ true → spot_from 0 n ns ≡ New k → place_in n ns ≡ None
 unfolding place_in
 place_new a n ns k r e = rw (new_spot a 0 n ns k r e).unknown
 
@@ -143,21 +143,21 @@ pub record FoundName (n : List ℕ) (ns : List (List ℕ)) (k : ℕ) : Type 0 wh
   pub within : k < length ns
   pub stands : get_or ns k [] ≡ n
 
-found_case : (n : List ℕ) (ns : List (List ℕ)) (k : ℕ) (t : Bool) → is_among n ns ≡ t → pick t (At (place_of_name n ns)) Absent ≡ At k → FoundName n ns k
+found_case : (n : List ℕ) (ns : List (List ℕ)) (k : ℕ) (t : Bool) → is_among n ns ≡ t → pick t (Some (place_of_name n ns)) None ≡ Some k → FoundName n ns k
 found_case n ns k false e f = absurd (let z : ◌≡◌ {A = ℕ} 0 1 = cc in omega arith)
 found_case n ns k true e f =
     let q : place_of_name n ns ≡ k = cc in
     let p = placed n ns e in
     record { among = e; place = sym q; within = omega (arith, p.within); stands = ap (λ (i : ℕ). get_or ns i []) (sym q) ∙ p.stands }
 
-pub found_name : (n : List ℕ) (ns : List (List ℕ)) (k : ℕ) → place_in n ns ≡ At k → FoundName n ns k
+pub found_name : (n : List ℕ) (ns : List (List ℕ)) (k : ℕ) → place_in n ns ≡ Some k → FoundName n ns k
 unfolding place_in
 found_name n ns k e = found_case n ns k (is_among n ns) refl e
 
-absent_case : (n : List ℕ) (ns : List (List ℕ)) (t : Bool) → pick t (At (place_of_name n ns)) Absent ≡ Absent → t ≡ false
+absent_case : (n : List ℕ) (ns : List (List ℕ)) (t : Bool) → pick t (Some (place_of_name n ns)) None ≡ None → t ≡ false
 absent_case n ns true f = absurd (let z : ◌≡◌ {A = ℕ} 0 1 = cc in omega arith)
 absent_case n ns false f = refl
 
-pub absent_name : (n : List ℕ) (ns : List (List ℕ)) → place_in n ns ≡ Absent → is_among n ns ≡ false
+pub absent_name : (n : List ℕ) (ns : List (List ℕ)) → place_in n ns ≡ None → is_among n ns ≡ false
 unfolding place_in
 absent_name n ns e = absent_case n ns (is_among n ns) e

@@ -3,7 +3,7 @@
 use mathlib.Core.Path.{◌≡◌, refl, ap, ◌∙◌}
 use mathlib.Core.Bool.{Bool, true, false}
 use mathlib.Core.List.{List, [], ◌∷◌}
-use mathlib.Core.Option.{some, none}
+use Rattle.std.proofs.Common.{Some, None}
 use Prim.Native.Nat.{ℕ, ◌^◌, ◌<◌}
 use lib.ListN.{length}
 use Rattle.octets.specs.Pick.{pick}
@@ -42,7 +42,7 @@ unfolding drop_consumer
 drop_name c g = refl
 
 -- nothing changes
-pub acknowledge_missing : (i : Id) (g : Group) → find_pending i g.pending ≡ none → acknowledge i g ≡ g
+pub acknowledge_missing : (i : Id) (g : Group) → find_pending i g.pending ≡ None → acknowledge i g ≡ g
 unfolding acknowledge
 acknowledge_missing i g f =
     let q = without_absent i g.pending f in
@@ -73,7 +73,7 @@ module _ (c : List ℕ) (g : Group) (k : is_group g ≡ true) (e : is_among c g.
 
 -- the groups keep their rules when the group that was found takes a step
 module _ (last : Id) (gs : List Group) (e : is_groups last gs ≡ true) where
-  module _ (n : List ℕ) (g : Group) (f : find_group n gs ≡ some g) where
+  module _ (n : List ℕ) (g : Group) (f : find_group n gs ≡ Some g) where
     pub found_is_group : is_group g ≡ true
     found_is_group = (found_kept last n gs g (sound last gs e).groups f).is_group_lem
 
@@ -93,7 +93,7 @@ module _ (last : Id) (gs : List Group) (e : is_groups last gs ≡ true) where
     pub acknowledge_groups : (i : Id) → is_groups last (put_group (acknowledge i g) gs) ≡ true
     acknowledge_groups i = put_step (acknowledge i g) (acknowledge_name i g) (acknowledge_kept i g found_is_group) (acknowledge_up_to last g found_up_to i)
 
-    pub claim_groups : (c : List ℕ) (now : ℕ) (i : Id) (p : Pending) → is_name c ≡ true → now < 2 ^ 64 → find_pending i g.pending ≡ some p
+    pub claim_groups : (c : List ℕ) (now : ℕ) (i : Id) (p : Pending) → is_name c ≡ true → now < 2 ^ 64 → find_pending i g.pending ≡ Some p
         → lacks_consumer c g ≡ false → is_groups last (put_group (claim c now p g) gs) ≡ true
     claim_groups c now i p h t x k =
         put_step (claim c now p g) (claim_name c now p g) (claim_kept c now i p g found_is_group h t x k) (claim_up_to last g found_up_to c now i p x)

@@ -2,7 +2,7 @@
 use mathlib.Core.Path.{◌≡◌, refl, sym, ap, ◌∙◌, subst}
 use mathlib.Core.Bool.{Bool, true, false}
 use mathlib.Core.List.{List, [], ◌∷◌}
-use mathlib.Core.Option.{some}
+use Rattle.std.proofs.Common.{Some}
 use Prim.Native.Nat.{ℕ, ◌+◌, ◌-◌, ◌*◌, ◌≤◌, ◌<◌}
 use native.Mathlib.Omega.{arith}
 use lib.ListN.{length, take, drop, get_or}
@@ -92,8 +92,8 @@ used_not_zero (x ∷ s) h = rw (ne_eqb x 0 h)
 pub sound_tested : (s : List ℕ) → SoundRegion s → Tested s
 sound_tested s h = tested s (subst (λ (l : List ℕ). is_region l ≡ true) (sym h.laid) (is_region_lem (group_in s) (rules (group_in s) h.rules_kept)))
 
-pub sound_parse : (s : List ℕ) → SoundRegion s → parse_region s ≡ some (group_in s)
-sound_parse s h = subst (λ (l : List ℕ). parse_region l ≡ some (group_in s)) (sym h.laid) (region_parse (group_in s) h.rules_kept)
+pub sound_parse : (s : List ℕ) → SoundRegion s → parse_region s ≡ Some (group_in s)
+sound_parse s h = subst (λ (l : List ℕ). parse_region l ≡ Some (group_in s)) (sym h.laid) (region_parse (group_in s) h.rules_kept)
 
 -- the region of a group is sound, and is read as that group
 pub group_in_lem : (g : Group) → is_group g ≡ true → group_in (region_bytes g) ≡ g
@@ -109,7 +109,7 @@ pub record ParsedSound (s : List ℕ) (g : Group) : Type 0 where
   pub group : group_in s ≡ g
   pub sound : SoundRegion s
 
-pub parse_sound : (s : List ℕ) (g : Group) → Bytes s → parse_region s ≡ some g → ParsedSound s g
+pub parse_sound : (s : List ℕ) (g : Group) → Bytes s → parse_region s ≡ Some g → ParsedSound s g
 parse_sound s g b e =
     let r = region_bytes_lem s g b e in
     record {

@@ -1,19 +1,14 @@
 -- What the functions answer, in terms of the group that a region holds. Assumes nothing.
-use Rattle.std.specs.Prelude.{◌≡◌, Bool, true, List, [], ◌∷◌, ℕ, ◌+◌}
-use Rattle.std.proofs.Math.Option.{Option, some, none}
+use Rattle.std.specs.Prelude.{◌≡◌, Bool, true, List, [], ◌∷◌, ℕ, ◌+◌, Option, Some, None}
 use Rattle.octets.specs.Pick.{pick, both}
 use Rattle.octets.specs.Compare.{order_of}
-use Rattle.octets.specs.declared.Order.{Order}
-use Rattle.octets.specs.declared.Order.TheVariants.{Less, Equal, Greater}
+use Rattle.std.specs.declared.cmp.Ordering.{Ordering}
+use Rattle.std.specs.declared.cmp.Ordering.TheVariants.{Less, Equal, Greater}
 use Rattle.id.specs.declared.Id.{Id}
 use Rattle.groups.specs.declared.Spot.{Spot}
 use Rattle.groups.specs.declared.Spot.TheVariants.{Known, New}
-use Rattle.groups.specs.declared.NamePlace.{NamePlace}
-use Rattle.groups.specs.declared.NamePlace.TheVariants.{At, Absent}
 use Rattle.groups.specs.declared.PendingEntry.{PendingEntry}
-use Rattle.groups.specs.declared.PendingEntry.TheVariants.{Entry, Missing}
 use Rattle.groups.specs.declared.NextEntry.{NextEntry}
-use Rattle.groups.specs.declared.NextEntry.TheVariants.{Given, Nothing}
 use Rattle.groups.specs.Group.{Pending, Group, is_among, is_group}
 use Rattle.groups.specs.Bytes.{place_of_name, region_bytes}
 use Rattle.groups.specs.Parse.{group_in}
@@ -26,7 +21,7 @@ pub record SoundRegion (s : List ℕ) : Type 0 where
   pub rules_kept : is_group (group_in s) ≡ true
 
 -- where a name stands among rising names, or the place that it would get
-abbrev pub spot_by : Order → ℕ → Spot → Spot
+abbrev pub spot_by : Ordering → ℕ → Spot → Spot
 spot_by Less k later = New k
 spot_by Equal k later = Known k
 spot_by Greater k later = later
@@ -36,25 +31,25 @@ spot_from k n [] = New k
 spot_from k n (m ∷ ms) = spot_by (order_of n m) k (spot_from (k + 1) n ms)
 
 -- find consumer
-unfoldable pub place_in : List ℕ → List (List ℕ) → NamePlace
-place_in n ns = pick (is_among n ns) (At (place_of_name n ns)) Absent
+unfoldable pub place_in : List ℕ → List (List ℕ) → Option ℕ
+place_in n ns = pick (is_among n ns) (Some (place_of_name n ns)) None
 
 -- find pending: the entry's place, its consumer's place, its time and count
 unfoldable pub place_of_id : Id → List Pending → ℕ
 place_of_id i [] = 0
 place_of_id i (p ∷ ps) = pick (same_id p.id i) 0 (1 + place_of_id i ps)
 
-abbrev pub held_as : List (List ℕ) → ℕ → Option Pending → PendingEntry
-held_as consumers k none = Missing
-held_as consumers k (some p) = Entry k (place_of_name p.consumer consumers) p.time p.count
+abbrev pub held_as : List (List ℕ) → ℕ → Option Pending → Option PendingEntry
+held_as consumers k None = None
+held_as consumers k (Some p) = Some (record { place = k; consumer = place_of_name p.consumer consumers; time = p.time; count = p.count })
 
-unfoldable pub held_in : Id → Group → PendingEntry
+unfoldable pub held_in : Id → Group → Option PendingEntry
 held_in i g = held_as g.consumers (place_of_id i g.pending) (find_pending i g.pending)
 
 -- next pending: the consumer's entry that an answer gives, or none
-abbrev pub entry_given : List ℕ → NextEntry → Option Pending
-entry_given consumer (Given i time count) = some (record { id = i; consumer = consumer; time = time; count = count })
-entry_given consumer Nothing = none
+abbrev pub entry_given : List ℕ → Option NextEntry → Option Pending
+entry_given consumer (Some e) = Some (record { id = e.id; consumer = consumer; time = e.time; count = e.count })
+entry_given consumer None = None
 
 -- a consumer is made if new
 unfoldable pub with_consumer : List ℕ → Group → Group

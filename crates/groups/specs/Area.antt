@@ -1,6 +1,5 @@
 -- The groups area of the state: eight regions, groups by rising name, free regions, all zero, last. Assumes nothing.
-use Rattle.std.specs.Prelude.{Bool, true, false, List, [], ◌∷◌, ◌++◌, map, ℕ, zero, suc, ◌-◌, ◌*◌, leb, eqb, length, take, drop}
-use Rattle.std.proofs.Math.Option.{Option, some}
+use Rattle.std.specs.Prelude.{Bool, true, false, List, [], ◌∷◌, ◌++◌, map, ℕ, zero, suc, ◌-◌, ◌*◌, leb, eqb, length, take, drop, Option, Some}
 use Rattle.octets.specs.Pick.{both}
 use Rattle.octets.specs.Maybe.{◌>>=◌, ◌>>◌, need}
 use Rattle.octets.specs.Bytes.{zeros}
@@ -37,14 +36,14 @@ area_bytes gs = regions gs ++ zeros (area_size - length gs * region_size)
 
 -- the groups in so many regions; none follows a free one
 unfoldable pub parse_regions : ℕ → List ℕ → Option (List Group)
-parse_regions zero s = some []
+parse_regions zero s = Some []
 parse_regions (suc n) s =
     elim (all_zero s) [
-      | true ↦ some []
+      | true ↦ Some []
       | false ↦ do
         g ← parse_region (take region_size s)
         gs ← parse_regions n (drop region_size s)
-        some (g ∷ gs)
+        Some (g ∷ gs)
     ]
 
 unfoldable pub parse_area : Id → List ℕ → Option (List Group)
@@ -52,4 +51,4 @@ parse_area last s = do
   need (eqb (length s) area_size)
   gs ← parse_regions most_groups s
   need (is_groups last gs)
-  some gs
+  Some gs

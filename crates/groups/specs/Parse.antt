@@ -1,8 +1,7 @@
 -- Strict reading of a group's region and of its body in a snapshot: the group, or none. It is some group exactly when the bytes
 -- are that group's and it keeps the rules (proofs/Laws: region_parse, region_bytes_lem, body_parse, body_bytes_lem). Each reading is a test
 -- of the bytes, in the code's order, and what is read of them. Assumes nothing.
-use Rattle.std.specs.Prelude.{Bool, true, List, [], ◌∷◌, ℕ, zero, suc, ◌+◌, ◌-◌, ◌*◌, leb, ltb, eqb, length, drop, get_or}
-use Rattle.std.proofs.Math.Option.{Option, some, none}
+use Rattle.std.specs.Prelude.{Bool, true, List, [], ◌∷◌, ℕ, zero, suc, ◌+◌, ◌-◌, ◌*◌, leb, ltb, eqb, length, drop, get_or, Option, Some, None}
 use Rattle.octets.specs.Pick.{both}
 use Rattle.octets.specs.Maybe.{◌>>=◌, ◌>>◌, need}
 use Rattle.octets.specs.Bytes.{le_value}
@@ -105,11 +104,11 @@ is_region s = both (eqb (length s) region_size) (both (is_field s) (both (names_
 unfoldable pub parse_region : List ℕ → Option Group
 parse_region s = do
   need (is_region s)
-  some (group_in s)
+  Some (group_in s)
 
 -- a length of one byte, 1 to 16, and so many bytes
 unfoldable pub take_name : List ℕ → Option Taken
-take_name [] = none
+take_name [] = None
 take_name (n ∷ s) = do
   need (both (leb 1 n) (leb n longest_name))
   take_bytes n s
@@ -120,12 +119,12 @@ pub record TakenNames : Type 0 where
 
 -- so many names, rising above one
 unfoldable pub take_names : List ℕ → ℕ → List ℕ → Option TakenNames
-take_names above zero s = some (record { names = []; rest = s })
+take_names above zero s = Some (record { names = []; rest = s })
 take_names above (suc n) s = do
   x ← take_name s
   need (comes_before above x.bytes)
   xs ← take_names x.bytes n x.rest
-  some (record { names = x.bytes ∷ xs.names; rest = xs.rest })
+  Some (record { names = x.bytes ∷ xs.names; rest = xs.rest })
 
 -- the body ends exactly at the end
 unfoldable pub parse_body : List ℕ → Option Group
@@ -139,7 +138,7 @@ parse_body s = do
   need (leb (le_value entries.bytes) most_pending)
   need (eqb (length entries.rest) (le_value entries.bytes * entry_bytes))
   need (are_entries (le_value count.bytes) least (id_from delivered.bytes) (le_value entries.bytes) entries.rest)
-  some (record {
+  Some (record {
     name = name.bytes;
     delivered = id_from delivered.bytes;
     consumers = consumers.names;

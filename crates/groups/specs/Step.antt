@@ -1,6 +1,5 @@
 -- What happens to a group, and to the groups (01, Commands). Assumes nothing.
-use Rattle.std.specs.Prelude.{Bool, not, List, [], ◌∷◌, ℕ, ◌+◌, ◌-◌, min, leb, length}
-use Rattle.std.proofs.Math.Option.{Option, some, none}
+use Rattle.std.specs.Prelude.{Bool, not, List, [], ◌∷◌, ℕ, ◌+◌, ◌-◌, min, leb, length, Option, Some, None}
 use Rattle.octets.specs.Pick.{pick, both}
 use Rattle.octets.specs.Compare.{same, comes_before}
 use Rattle.id.specs.declared.Id.{Id}
@@ -17,8 +16,8 @@ without_name n [] = []
 without_name n (m ∷ ms) = pick (same n m) ms (m ∷ without_name n ms)
 
 unfoldable pub find_pending : Id → List Pending → Option Pending
-find_pending i [] = none
-find_pending i (p ∷ ps) = pick (same_id p.id i) (some p) (find_pending i ps)
+find_pending i [] = None
+find_pending i (p ∷ ps) = pick (same_id p.id i) (Some p) (find_pending i ps)
 
 -- an entry goes to its place, and one of the same ID gives way
 unfoldable pub put_pending : Pending → List Pending → List Pending
@@ -42,8 +41,8 @@ pending_of_others n (p ∷ ps) = pick (same n p.consumer) (pending_of_others n p
 
 -- the first entry above an ID
 unfoldable pub first_above : Id → List Pending → Option Pending
-first_above i [] = none
-first_above i (p ∷ ps) = pick (below i p.id) (some p) (first_above i ps)
+first_above i [] = None
+first_above i (p ∷ ps) = pick (below i p.id) (Some p) (first_above i ps)
 
 -- 12, a consumer would be made and 16 exist
 unfoldable pub lacks_consumer : List ℕ → Group → Bool
@@ -100,8 +99,8 @@ drop_consumer consumer g =
 
 -- the groups by rising name: the one of a name, a new one at its place or in the place of its namesake, and the others
 unfoldable pub find_group : List ℕ → List Group → Option Group
-find_group n [] = none
-find_group n (g ∷ gs) = pick (same n g.name) (some g) (find_group n gs)
+find_group n [] = None
+find_group n (g ∷ gs) = pick (same n g.name) (Some g) (find_group n gs)
 
 unfoldable pub put_group : Group → List Group → List Group
 put_group g [] = g ∷ []

@@ -28,27 +28,24 @@ fn is_field(s: &[u8], at: usize) -> bool
     octets::all_zero_from(&s[at + 1 + n..at + FIELD_BYTES], 0)
 }
 
-// So many fields whose names rise; the name before lies at from.
+// So many fields whose names rise.
 fn fields_rise(s: &[u8], at: usize, count: usize) -> bool
     requires { at + count * field_bytes ≤ length s.now }
     ensures { result ≡ are_fields [] count (drop at s.now) }
 {
     let mut i = at;
-    let mut left = count;
-    let mut from = 0;
-    let mut size = 0;
-    while 0 < left {
+    let mut above: &[u8] = b"";
+    for _ in 0..count {
         if !is_field(s, i) {
             return false;
         }
         let n = octets::wide(s[i]) as usize;
-        if !octets::comes_before(&s[from..from + size], &s[i + 1..i + 1 + n]) {
+        let name = &s[i + 1..i + 1 + n];
+        if !octets::comes_before(above, name) {
             return false;
         }
-        from = i + 1;
-        size = n;
+        above = name;
         i += FIELD_BYTES;
-        left -= 1;
     }
     true
 }
@@ -78,14 +75,12 @@ pub fn entries_rise(s: &[u8], at: usize, count: usize, consumers: usize, most: I
 {
     let mut above = Id::LEAST;
     let mut i = at;
-    let mut left = count;
-    while 0 < left {
+    for _ in 0..count {
         if !is_entry(s, i, consumers, above, most) {
             return false;
         }
         above = id::read_id(s, i);
         i += ENTRY_BYTES;
-        left -= 1;
     }
     true
 }

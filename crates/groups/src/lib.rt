@@ -43,30 +43,26 @@ pub use reading::{
     consumer_count, delivered, find_consumer, find_pending, next_pending, pending_count, spot_of,
 };
 
-// A name's place among the consumers, or the place that it would get.
+// A name's place among the consumers, or the place that it would get. No Result: neither is an error.
 #[derive(Clone, Copy)]
 pub enum Spot {
     Known(usize),
     New(usize),
 }
 
-// The place of a name among names, consumers or groups.
+// A pending entry that was found by its ID.
 #[derive(Clone, Copy)]
-pub enum NamePlace {
-    At(usize),
-    Absent,
+pub struct PendingEntry {
+    pub place: usize,
+    pub consumer: usize,
+    pub time: u64,
+    pub count: u64,
 }
 
-// A pending entry: its place, its consumer's place, its time and count.
+// A consumer's next entry.
 #[derive(Clone, Copy)]
-pub enum PendingEntry {
-    Entry(usize, usize, u64, u64),
-    Missing,
-}
-
-// A consumer's next entry: its ID, time and count.
-#[derive(Clone, Copy)]
-pub enum NextEntry {
-    Given(Id, u64, u64),
-    Nothing,
+pub struct NextEntry {
+    pub id: Id,
+    pub time: u64,
+    pub count: u64,
 }

@@ -11,10 +11,10 @@ ghost use Rattle.groups.specs.Answer.{SoundRegion, spot_from, place_in, held_in,
 
 use crate::{
     CONSUMERS_AT, COUNT_AT, DELIVERED_AT, ENTRIES_AT, ENTRY_BYTES, FIELD_BYTES, FIELDS_AT,
-    NamePlace, NextEntry, PENDING_AT, PLACE_AT, PendingEntry, Spot, TIME_AT,
+    NextEntry, PENDING_AT, PLACE_AT, PendingEntry, Spot, TIME_AT,
 };
 use id::Id;
-use octets::Order;
+use std::cmp::Ordering;
 
 pub fn delivered(region: &[u8]) -> Id
     requires { SoundRegion region.now }
@@ -42,56 +42,51 @@ pub fn spot_of(region: &[u8], name: &[u8]) -> Spot
     requires { SoundRegion region.now }
     ensures { result ≡ spot_from 0 name.now (group_in region.now).consumers }
 {
-    let mut left = consumer_count(region);
-    let mut k = 0;
+    let count = consumer_count(region);
     let mut at = FIELDS_AT;
-    while 0 < left {
+    for k in 0..count {
         let n = octets::wide(region[at]) as usize;
         match octets::compare(name, &region[at + 1..at + 1 + n]) {
-            Order::Less => return Spot::New(k),
-            Order::Equal => return Spot::Known(k),
-            Order::Greater => {}
+            Ordering::Less => return Spot::New(k),
+            Ordering::Equal => return Spot::Known(k),
+            Ordering::Greater => {}
         }
         at += FIELD_BYTES;
-        k += 1;
-        left -= 1;
     }
-    Spot::New(k)
+    Spot::New(count)
 }
 
-pub fn find_consumer(region: &[u8], name: &[u8]) -> NamePlace
+pub fn find_consumer(region: &[u8], name: &[u8]) -> Option<usize>
     requires { SoundRegion region.now }
     ensures { result ≡ place_in name.now (group_in region.now).consumers }
 {
     match spot_of(region, name) {
-        Spot::Known(k) => NamePlace::At(k),
-        Spot::New(_) => NamePlace::Absent,
+        Spot::Known(k) => Some(k),
+        Spot::New(_) => None,
     }
 }
 
-pub fn find_pending(region: &[u8], id: Id) -> PendingEntry
+pub fn find_pending(region: &[u8], id: Id) -> Option<PendingEntry>
     requires { SoundRegion region.now }
     ensures { result ≡ held_in id (group_in region.now) }
 {
-    let mut left = pending_count(region);
-    let mut k = 0;
     let mut at = ENTRIES_AT;
-    while 0 < left {
+    let count = pending_count(region);
+    for k in 0..count {
         if id::read_id(region, at).is_same(id) {
             let consumer = octets::wide(region[at + PLACE_AT]) as usize;
             let time = octets::read_le(region, at + TIME_AT, 8);
-            return PendingEntry::Entry(
-                k,
+            let count = octets::read_le(region, at + COUNT_AT, 2);
+            return Some(PendingEntry {
+                place: k,
                 consumer,
                 time,
-                octets::read_le(region, at + COUNT_AT, 2),
-            );
+                count,
+            });
         }
         at += ENTRY_BYTES;
-        k += 1;
-        left -= 1;
     }
-    PendingEntry::Missing
+    None
 }
 
 // Is the entry that consumer's, and above the ID?
@@ -107,30 +102,28 @@ fn is_next(region: &[u8], at: usize, consumer: usize, after: Id) -> bool
 }
 
 // The next entry of the consumer at a place.
-fn next_of(region: &[u8], consumer: usize, after: Id) -> NextEntry
+fn next_of(region: &[u8], consumer: usize, after: Id) -> Option<NextEntry>
     requires { SoundRegion region.now × (consumer < length (group_in region.now).consumers) }
     ensures { entry_given (get_or (group_in region.now).consumers consumer []) result ≡ next_pending (get_or (group_in region.now).consumers consumer []) after (group_in region.now) }
 {
-    let mut left = pending_count(region);
     let mut at = ENTRIES_AT;
-    while 0 < left {
+    let count = pending_count(region);
+    for _ in 0..count {
         if is_next(region, at, consumer, after) {
             let id = id::read_id(region, at);
             let time = octets::read_le(region, at + TIME_AT, 8);
-            return NextEntry::Given(id, time, octets::read_le(region, at + COUNT_AT, 2));
+            let count = octets::read_le(region, at + COUNT_AT, 2);
+            return Some(NextEntry { id, time, count });
         }
         at += ENTRY_BYTES;
-        left -= 1;
     }
-    NextEntry::Nothing
+    None
 }
 
-pub fn next_pending(region: &[u8], consumer: &[u8], after: Id) -> NextEntry
+pub fn next_pending(region: &[u8], consumer: &[u8], after: Id) -> Option<NextEntry>
     requires { SoundRegion region.now }
     ensures { entry_given consumer.now result ≡ next_pending consumer.now after (group_in region.now) }
 {
-    match find_consumer(region, consumer) {
-        NamePlace::At(k) => next_of(region, k, after),
-        NamePlace::Absent => NextEntry::Nothing,
-    }
+    let k = find_consumer(region, consumer)?;
+    next_of(region, k, after)
 }

@@ -2,7 +2,7 @@
 use mathlib.Core.Path.{◌≡◌, refl, sym, ap, ap₂, ◌∙◌}
 use mathlib.Core.Bool.{Bool, true, false}
 use mathlib.Core.List.{List, [], ◌++◌}
-use mathlib.Core.Option.{Option, some, none}
+use Rattle.std.proofs.Common.{Option, Some, None}
 use Prim.Native.Nat.{ℕ, suc, ◌+◌, ◌-◌, ◌*◌, ◌≤◌, ◌<◌}
 use native.Mathlib.Omega.{arith}
 use lib.Dec.{leb}
@@ -12,13 +12,16 @@ use Rattle.octets.specs.Pick.{pick}
 use Rattle.octets.specs.Bytes.{le}
 use Rattle.octets.specs.Place.{put, spliced}
 use Rattle.id.specs.declared.Id.{Id}
-use Rattle.groups.specs.declared.PendingEntry.TheVariants.{Entry, Missing}
 use Rattle.groups.specs.Group.{Pending, Group, is_among}
 use Rattle.groups.specs.Bytes.{region_bytes}
 use Rattle.groups.specs.Parse.{group_in}
 use Rattle.groups.specs.Step.{idle, find_pending, acknowledge, lacks_consumer}
 use Rattle.groups.specs.Answer.{SoundRegion, place_of_id, held_as, held_in}
 use Rattle.groups.proofs.Laws.{Rules, stands}
+use Rattle.groups.specs.declared.PendingEntry.{PendingEntry}
+use Rattle.refusal.specs.declared.Refusal.{Refusal}
+use Rattle.octets.proofs.Options.{some_injective}
+use Rattle.refusal.specs.declared.Refusal.TheVariants.{MostConsumers, MostPending}
 use Rattle.groups_change.specs.Change.{with_pending, without_at, refusal_to_deliver, refusal_to_claim, claim_moves}
 use borrow.Author.Tests.{le-leb, lt-leb, leb-false}
 use Rattle.groups_change.proofs.Moves.{nobody}
@@ -57,36 +60,40 @@ module _ (s : List ℕ) (h : SoundRegion s) where
       ∙ sym (region_shape (with_pending (xs ++ ys) g))
 
 -- what find pending says
-pub record HeldEntry (i : Id) (g : Group) (at place time count : ℕ) : Type 0 where
+pub record HeldEntry (i : Id) (g : Group) (e : PendingEntry) : Type 0 where
   pub found : Pending
-  pub is_found : find_pending i g.pending ≡ some found
-  pub is_place_lem : at ≡ place_of_id i g.pending
-  pub is_time : found.time ≡ time
-  pub is_count_lem : found.count ≡ count
+  pub is_found : find_pending i g.pending ≡ Some found
+  pub is_place_lem : e.place ≡ place_of_id i g.pending
+  pub is_time : found.time ≡ e.time
+  pub is_count_lem : found.count ≡ e.count
 
-held_case : (i : Id) (g : Group) (at place time count : ℕ) (o : Option Pending) → find_pending i g.pending ≡ o
-    → held_as g.consumers (place_of_id i g.pending) o ≡ Entry at place time count → HeldEntry i g at place time count
-held_case i g at place time count none f e = absurd (let z : ◌≡◌ {A = ℕ} 0 1 = cc in omega arith)
-held_case i g at place time count (some p) f e =
-    let a : place_of_id i g.pending ≡ at = cc in
-    let t : p.time ≡ time = cc in
-    let c : p.count ≡ count = cc in
-    record { found = p; is_found = f; is_place_lem = sym a; is_time = t; is_count_lem = c }
+held_case : (i : Id) (g : Group) (x : PendingEntry) (o : Option Pending) → find_pending i g.pending ≡ o
+    → held_as g.consumers (place_of_id i g.pending) o ≡ Some x → HeldEntry i g x
+held_case i g x None f e = absurd (let z : ◌≡◌ {A = ℕ} 0 1 = cc in omega arith)
+held_case i g x (Some p) f e =
+    let q = some_injective _ _ e in
+    record {
+      found = p;
+      is_found = f;
+      is_place_lem = ap (λ (y : PendingEntry). y.place) (sym q);
+      is_time = ap (λ (y : PendingEntry). y.time) q;
+      is_count_lem = ap (λ (y : PendingEntry). y.count) q;
+    }
 
-pub held_entry : (i : Id) (g : Group) (at place time count : ℕ) → held_in i g ≡ Entry at place time count → HeldEntry i g at place time count
+pub held_entry : (i : Id) (g : Group) (x : PendingEntry) → held_in i g ≡ Some x → HeldEntry i g x
 unfolding held_in
-held_entry i g at place time count e = held_case i g at place time count (find_pending i g.pending) refl e
+held_entry i g x e = held_case i g x (find_pending i g.pending) refl e
 
-missing_case : (cs : List (List ℕ)) (k : ℕ) (o : Option Pending) → held_as cs k o ≡ Missing → o ≡ none
-missing_case cs k none e = refl
-missing_case cs k (some p) e = absurd (let z : ◌≡◌ {A = ℕ} 0 1 = cc in omega arith)
+missing_case : (cs : List (List ℕ)) (k : ℕ) (o : Option Pending) → held_as cs k o ≡ None → o ≡ None
+missing_case cs k None e = refl
+missing_case cs k (Some p) e = absurd (let z : ◌≡◌ {A = ℕ} 0 1 = cc in omega arith)
 
-pub held_missing : (i : Id) (g : Group) → held_in i g ≡ Missing → find_pending i g.pending ≡ none
+pub held_missing : (i : Id) (g : Group) → held_in i g ≡ None → find_pending i g.pending ≡ None
 unfolding held_in
 held_missing i g e = missing_case g.consumers (place_of_id i g.pending) (find_pending i g.pending) e
 
 -- acknowledge
-pub acknowledge_found : (i : Id) (g : Group) (p : Pending) → find_pending i g.pending ≡ some p
+pub acknowledge_found : (i : Id) (g : Group) (p : Pending) → find_pending i g.pending ≡ Some p
     → with_pending (without_at (place_of_id i g.pending) g.pending) g ≡ acknowledge i g
 unfolding acknowledge
 acknowledge_found i g p f = ap (λ (l : List Pending). with_pending l g) (sym (stands i g.pending p f).without)
@@ -102,25 +109,25 @@ lacks_unknown c g n q e = rw (e, q)
 
 -- what deliver answers
 module _ (c : List ℕ) (g : Group) where
-  pub deliver_12 : lacks_consumer c g ≡ true → refusal_to_deliver c g ≡ some 12
+  pub deliver_12 : lacks_consumer c g ≡ true → refusal_to_deliver c g ≡ Some MostConsumers
   unfolding refusal_to_deliver
   deliver_12 e = rw e
 
   module _ (n : ℕ) (q : n ≡ length g.pending) (e : lacks_consumer c g ≡ false) where
-    pub deliver_13 : 256 ≤ n → refusal_to_deliver c g ≡ some 13
+    pub deliver_13 : 256 ≤ n → refusal_to_deliver c g ≡ Some MostPending
     unfolding refusal_to_deliver
     deliver_13 h = rw (e, le-leb 256 (length g.pending) (omega arith))
 
-    pub deliver_done : n < 256 → refusal_to_deliver c g ≡ none
+    pub deliver_done : n < 256 → refusal_to_deliver c g ≡ None
     unfolding refusal_to_deliver
     deliver_done h = rw (e, lt-leb 256 (length g.pending) (omega arith))
 
-free_case : (a b : Bool) → pick {A = Option ℕ} a (some 12) (pick b (some 13) none) ≡ none → (a ≡ false) × (b ≡ false)
+free_case : (a b : Bool) → pick {A = Option Refusal} a (Some MostConsumers) (pick b (Some MostPending) None) ≡ None → (a ≡ false) × (b ≡ false)
 free_case true b e = absurd (let z : ◌≡◌ {A = ℕ} 0 1 = cc in omega arith)
 free_case false true e = absurd (let z : ◌≡◌ {A = ℕ} 0 1 = cc in omega arith)
 free_case false false e = (refl, refl)
 
-pub deliver_free : (c : List ℕ) (g : Group) → refusal_to_deliver c g ≡ none → (lacks_consumer c g ≡ false) × (length g.pending < 256)
+pub deliver_free : (c : List ℕ) (g : Group) → refusal_to_deliver c g ≡ None → (lacks_consumer c g ≡ false) × (length g.pending < 256)
 unfolding refusal_to_deliver
 deliver_free c g e =
     let q = free_case (lacks_consumer c g) (leb 256 (length g.pending)) e in
@@ -128,22 +135,22 @@ deliver_free c g e =
 
 -- what claim answers
 module _ (c : List ℕ) (least_idle : ℕ) (i : Id) (now : ℕ) (g : Group) where
-  abbrev pub ClaimIs : Option ℕ → Bool → Type 0
+  abbrev pub ClaimIs : Option Refusal → Bool → Type 0
   ClaimIs o moves = (o ≡ refusal_to_claim c least_idle i now g) × (moves ≡ claim_moves c least_idle i now g)
 
-  pub claim_missing : find_pending i g.pending ≡ none → ClaimIs none false
+  pub claim_missing : find_pending i g.pending ≡ None → ClaimIs None false
   unfolding refusal_to_claim claim_moves
   claim_missing f = (rw f, rw f)
 
-  module _ (p : Pending) (f : find_pending i g.pending ≡ some p) (x : ℕ) (q : x ≡ idle now p.time) where
-    pub claim_busy : x < least_idle → ClaimIs none false
+  module _ (p : Pending) (f : find_pending i g.pending ≡ Some p) (x : ℕ) (q : x ≡ idle now p.time) where
+    pub claim_busy : x < least_idle → ClaimIs None false
     unfolding refusal_to_claim claim_moves
     claim_busy h = let l = lt-leb least_idle (idle now p.time) (omega arith) in (rw (f, l), rw (f, l))
 
-    pub claim_12 : least_idle ≤ x → lacks_consumer c g ≡ true → ClaimIs (some 12) false
+    pub claim_12 : least_idle ≤ x → lacks_consumer c g ≡ true → ClaimIs (Some MostConsumers) false
     unfolding refusal_to_claim claim_moves
     claim_12 h e = let l = le-leb least_idle (idle now p.time) (omega arith) in (rw (f, l, e), rw (f, l, e))
 
-    pub claim_moved : least_idle ≤ x → lacks_consumer c g ≡ false → ClaimIs none true
+    pub claim_moved : least_idle ≤ x → lacks_consumer c g ≡ false → ClaimIs None true
     unfolding refusal_to_claim claim_moves
     claim_moved h e = let l = le-leb least_idle (idle now p.time) (omega arith) in (rw (f, l, e), rw (f, l, e))

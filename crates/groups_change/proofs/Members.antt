@@ -2,7 +2,7 @@
 use mathlib.Core.Path.{◌≡◌, refl, sym, ap, ap₂, ◌∙◌}
 use mathlib.Core.Bool.{Bool, true, false}
 use mathlib.Core.List.{List, [], ◌∷◌, ◌++◌}
-use mathlib.Core.Option.{some}
+use Rattle.std.proofs.Common.{Some}
 use Prim.Native.Nat.{ℕ, suc, ◌+◌, ◌-◌, ◌*◌, ◌≤◌, ◌<◌, min}
 use native.Mathlib.Omega.{arith}
 use lib.ListN.{length, get_or, take, drop, set, length-append, length-drop, take-append-drop}
@@ -183,7 +183,7 @@ module _ (s : List ℕ) (h : SoundRegion s) where
     q_rules : Rules (with_consumer c g)
     q_rules = rules_with c g r name fits
 
-    pub claimed_entry : (at place time count : ℕ) (i : Id) (p : Pending) → find_pending i ps ≡ some p → at ≡ place_of_id i ps → place ≡ place_of_name c ds → count ≡ min (p.count + 1) 65535
+    pub claimed_entry : (at place time count : ℕ) (i : Id) (p : Pending) → find_pending i ps ≡ Some p → at ≡ place_of_id i ps → place ≡ place_of_name c ds → count ≡ min (p.count + 1) 65535
         → put (region_bytes (with_consumer c g)) (308 + at * 27) (row_of i place time count) ≡ region_bytes (claim c time p g)
     unfolding claim pending_bytes with_consumer
     claimed_entry at place time count i p f ea ep ec =

@@ -10,7 +10,7 @@ ghost use Rattle.groups.specs.Answer.{SoundRegion, spot_from, with_consumer};
 ghost use Rattle.groups_change.specs.Change.{without_consumer};
 
 use crate::pieces::{move_places, name_field};
-use groups::{CONSUMERS_AT, FIELD_BYTES, FIELDS_AT, MOST_CONSUMERS, NamePlace, Spot};
+use groups::{CONSUMERS_AT, FIELD_BYTES, FIELDS_AT, MOST_CONSUMERS, Spot};
 
 // A consumer would be made and 16 exist.
 pub fn lacks_consumer(region: &[u8], name: &[u8]) -> bool
@@ -18,8 +18,8 @@ pub fn lacks_consumer(region: &[u8], name: &[u8]) -> bool
     ensures { result ≡ lacks_consumer name.now (group_in region.now) }
 {
     match groups::find_consumer(region, name) {
-        NamePlace::At(_) => false,
-        NamePlace::Absent => MOST_CONSUMERS <= groups::consumer_count(region),
+        Some(_) => false,
+        None => MOST_CONSUMERS <= groups::consumer_count(region),
     }
 }
 

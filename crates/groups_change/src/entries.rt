@@ -85,12 +85,10 @@ fn gather_others(region: &mut [u8], n: usize, k: usize) -> usize
     ensures { (result * entry_bytes ≡ length (rows_of_others k n (drop entries_at region.old))) × (result ≤ n) × (region.new ≡ put region.old entries_at (rows_of_others k n (drop entries_at region.old))) }
 {
     let mut at = ENTRIES_AT;
-    let mut left = n;
     let mut kept = 0;
-    while 0 < left {
+    for _ in 0..n {
         kept += keep_row(region, at, ENTRIES_AT + kept * ENTRY_BYTES, k);
         at += ENTRY_BYTES;
-        left -= 1;
     }
     kept
 }

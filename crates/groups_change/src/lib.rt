@@ -9,16 +9,3 @@ mod entries;
 mod pieces;
 
 pub use commands::{acknowledge, check_delivery, claim, deliver, deliver_all, drop_consumer};
-
-#[derive(Clone, Copy)]
-pub enum Delivery {
-    Done,
-    Refused(u32),
-}
-
-#[derive(Clone, Copy)]
-pub enum Claimed {
-    Moved,
-    NotMoved,
-    Refused(u32),
-}

@@ -38,11 +38,9 @@ pub fn move_places(region: &mut [u8], count: usize, from: usize, add: usize, sub
     ensures { region.new ≡ take entries_at region.old ++ places_moved from add sub count (drop entries_at region.old) }
 {
     let mut at = ENTRIES_AT;
-    let mut left = count;
-    while 0 < left {
+    for _ in 0..count {
         region[at + PLACE_AT] = moved_place(region[at + PLACE_AT], from, add, sub);
         at += ENTRY_BYTES;
-        left -= 1;
     }
 }
 
@@ -50,17 +48,11 @@ pub fn move_places(region: &mut [u8], count: usize, from: usize, add: usize, sub
 pub fn idle_for(time: u64, since: u64) -> u64
     ensures { result ≡ idle time since }
 {
-    if time < since {
-        return 0;
-    }
-    time - since
+    time.saturating_sub(since)
 }
 
 pub fn grown(count: u64) -> u64
     ensures { result ≡ min (count + 1) most_count }
 {
-    if MOST_COUNT <= count {
-        return MOST_COUNT;
-    }
-    count + 1
+    count.saturating_add(1).min(MOST_COUNT)
 }

@@ -4,3 +4,4 @@ pub mod Ordered
 pub mod Stored
 pub mod Differs
 pub mod Follows
+pub mod Derived

@@ -1,7 +1,6 @@
 -- What a record of bytes holds, and the bytes of a record that holds given entries. Both are shut: callers know the laws of proofs/Laws.
 -- Assumes nothing.
-use Rattle.std.specs.Prelude.{◌≡◌, refl, List, ℕ}
-use Rattle.std.proofs.Math.Option.{Option}
+use Rattle.std.specs.Prelude.{◌≡◌, refl, List, ℕ, Option}
 use Rattle.keys.specs.Entries.{Entry}
 use Rattle.radix.specs.Record.{entries_of}
 use Rattle.radix.specs.Layout.{record_of}

@@ -3,7 +3,7 @@
 use mathlib.Core.Bool.{true}
 use mathlib.Core.Path.{◌≡◌}
 use mathlib.Core.List.{List}
-use mathlib.Core.Option.{some}
+use Rattle.std.proofs.Common.{Some}
 use Prim.Native.Nat.{ℕ, ◌^◌, ◌<◌, ◌≤◌}
 use lib.ListN.{length}
 use Rattle.radix.specs.declared.Index.{Index}
@@ -14,6 +14,6 @@ use Rattle.radix.specs.Record.{entries_of}
 use Rattle.radix.proofs.Laws.{entries_map, nodes_suffice}
 
 -- below 64 keys a put is done (put_below_64), and its shape has room in the pool
-pub put_has_room : (x : Index) (es : List Entry) (k : List ℕ) (v : ℕ) → entries_of x ≡ some es → is_key k ≡ true → v < 2 ^ 32 → length es < 64 → node_count (insert k v es) ≤ 254
+pub put_has_room : (x : Index) (es : List Entry) (k : List ℕ) (v : ℕ) → entries_of x ≡ Some es → is_key k ≡ true → v < 2 ^ 32 → length es < 64 → node_count (insert k v es) ≤ 254
 put_has_room x es k v e p w l =
     nodes_suffice (insert k v es) (map_insert k v es (entries_map x es e) p w (full_not k es l))

@@ -1,20 +1,19 @@
 -- What is asked of a key and of what is none, and what the answers say. Assumes nothing.
 use Rattle.keys.proofs.Fits.{key_short, fit_head, fit_tail}
 use Rattle.octets.specs.Compare.{comes_before}
-use Rattle.octets.specs.Maybe.{or_else}
+use Rattle.std.specs.Option.{option_or}
 use Rattle.octets.specs.Pick.{pick}
-use native.Mathlib.Omega.{arith}
 use mathlib.Core.Bool.{Bool, true, false}
 use mathlib.Core.Path.{◌≡◌, refl, ap, sym, ◌∙◌}
 use mathlib.Core.List.{List, [], ◌∷◌}
-use mathlib.Core.Option.{Option, some, none}
-use Prim.Native.Nat.{ℕ, ◌-◌, ◌≤◌}
+use Rattle.std.proofs.Common.{Option, Some, None}
+use Prim.Native.Nat.{ℕ, ◌-◌}
 use lib.ListN.{length}
 use lib.Seq.{take_at}
 use Rattle.octets.specs.Bytes.{zeros}
 use Rattle.keys.specs.Entries.{Entry, entry, is_key, lookup, first_from, last_up_to, all_fit}
 use Rattle.keys.specs.Operation.{Reply, find, first_at_or_above, last_at_or_below, refused, found, value_reply, entry_reply, operate, reply_in}
-use Rattle.keys.specs.Answer.{neighbour_of, neighbour_reply}
+use Rattle.keys.specs.Answer.{neighbour_of, neighbour_reply, IsShort}
 use Rattle.keys.specs.Listing.{IsSound}
 
 -- what is asked of a key, and of what is none
@@ -43,42 +42,42 @@ found_reply e =
     ap (λ (k : List ℕ). found (entry k e.value)) (take_at e.key (zeros (16 - length e.key)) (length e.key) refl)
 
 pub entry_reply_lem : (e : Option Entry) → neighbour_reply (neighbour_of (entry_reply e)) ≡ entry_reply e
-entry_reply_lem none = refl
-entry_reply_lem (some e) = found_reply e
+entry_reply_lem None = refl
+entry_reply_lem (Some e) = found_reply e
 
 -- an index that is known to hold entries
-pub sound_some : (o : Option (List Entry)) → IsSound o → (es : List Entry) × (o ≡ some es)
-sound_some none s = absurd s
-sound_some (some es) s = (es, refl)
+pub sound_some : (o : Option (List Entry)) → IsSound o → (es : List Entry) × (o ≡ Some es)
+sound_some None s = absurd s
+sound_some (Some es) s = (es, refl)
 
 -- a neighbour says its reply
 pub first_told : (k : List ℕ) (e : Option (List Entry)) → neighbour_reply (neighbour_of (reply_in (first_at_or_above k) e)) ≡ reply_in (first_at_or_above k) e
-first_told k none = refl
-first_told k (some es) = go (is_key k) refl
+first_told k None = refl
+first_told k (Some es) = go (is_key k) refl
   where
-    go : (t : Bool) → is_key k ≡ t → neighbour_reply (neighbour_of (reply_in (first_at_or_above k) (some es))) ≡ reply_in (first_at_or_above k) (some es)
+    go : (t : Bool) → is_key k ≡ t → neighbour_reply (neighbour_of (reply_in (first_at_or_above k) (Some es))) ≡ reply_in (first_at_or_above k) (Some es)
     go false p = let z = first_refused k es p in ap (λ (r : Reply). neighbour_reply (neighbour_of r)) z ∙ sym z
     go true p = let z = first_reply k es p in ap (λ (r : Reply). neighbour_reply (neighbour_of r)) z ∙ entry_reply_lem (first_from k es) ∙ sym z
 
 pub last_told : (k : List ℕ) (e : Option (List Entry)) → neighbour_reply (neighbour_of (reply_in (last_at_or_below k) e)) ≡ reply_in (last_at_or_below k) e
-last_told k none = refl
-last_told k (some es) = go (is_key k) refl
+last_told k None = refl
+last_told k (Some es) = go (is_key k) refl
   where
-    go : (t : Bool) → is_key k ≡ t → neighbour_reply (neighbour_of (reply_in (last_at_or_below k) (some es))) ≡ reply_in (last_at_or_below k) (some es)
+    go : (t : Bool) → is_key k ≡ t → neighbour_reply (neighbour_of (reply_in (last_at_or_below k) (Some es))) ≡ reply_in (last_at_or_below k) (Some es)
     go false p = let z = last_refused k es p in ap (λ (r : Reply). neighbour_reply (neighbour_of r)) z ∙ sym z
     go true p = let z = last_reply k es p in ap (λ (r : Reply). neighbour_reply (neighbour_of r)) z ∙ entry_reply_lem (last_up_to k es) ∙ sym z
 
 -- an entry's key, where there is one
 abbrev pub KeyIs : Option Entry → Type 0
-KeyIs none = Unit {0}
-KeyIs (some e) = is_key e.key ≡ true
+KeyIs None = Unit {0}
+KeyIs (Some e) = is_key e.key ≡ true
 
 pub first_fits : (k : List ℕ) (es : List Entry) → all_fit es ≡ true → KeyIs (first_from k es)
 unfolding first_from
 first_fits k [] h = tt
 first_fits k (e ∷ es) h = go (comes_before e.key k) (first_fits k es (fit_tail e es h))
   where
-    go : (t : Bool) → KeyIs (first_from k es) → KeyIs (pick t (first_from k es) (some e))
+    go : (t : Bool) → KeyIs (first_from k es) → KeyIs (pick t (first_from k es) (Some e))
     go true ih = ih
     go false ih = fit_head e es h
 
@@ -87,11 +86,11 @@ unfolding last_up_to
 last_fits k [] h = tt
 last_fits k (e ∷ es) h = go (comes_before k e.key) (last_up_to k es) (last_fits k es (fit_tail e es h))
   where
-    go : (t : Bool) (o : Option Entry) → KeyIs o → KeyIs (pick t none (or_else o (some e)))
+    go : (t : Bool) (o : Option Entry) → KeyIs o → KeyIs (pick t None (option_or o (Some e)))
     go true o ih = tt
-    go false none ih = fit_head e es h
-    go false (some f) ih = ih
+    go false None ih = fit_head e es h
+    go false (Some f) ih = ih
 
-pub entry_short : (o : Option Entry) → KeyIs o → (neighbour_of (entry_reply o)).len ≤ 16
-entry_short none h = omega arith
-entry_short (some e) h = key_short e.key h
+pub entry_short : (o : Option Entry) → KeyIs o → IsShort (neighbour_of (entry_reply o))
+entry_short None h = tt
+entry_short (Some e) h = key_short e.key h

@@ -2,11 +2,11 @@
 use mathlib.Core.Bool.{Bool, true, false}
 use mathlib.Core.Path.{◌≡◌, refl, ap, ap₂}
 use mathlib.Core.List.{List, [], ◌∷◌}
-use mathlib.Core.Option.{Option, some, none}
+use Rattle.std.proofs.Common.{Option, Some, None}
 use Prim.Native.Nat.{ℕ}
 use lib.ListN.{length}
 use Rattle.octets.specs.Pick.{pick, both}
-use Rattle.octets.specs.Maybe.{or_else}
+use Rattle.std.specs.Option.{option_or}
 use Rattle.octets.specs.Bytes.{Bytes}
 use Rattle.octets.specs.Compare.{is_less, comes_before}
 use Rattle.id.specs.declared.Id.{Id}
@@ -32,7 +32,7 @@ module _ {A : Type 0} (f : A → Id) (v : A → ℕ) where
   first_ids i (x ∷ xs) p h = go (below (f x) i) (before_ids (f x) i h.0 p) (first_ids i xs p h.1)
     where
       go : (t : Bool) → comes_before (id_bytes (f x)) (id_bytes i) ≡ t → first_from (id_bytes i) (entries_by f v xs) ≡ entry_by f v (first_by f i xs)
-          → pick (comes_before (id_bytes (f x)) (id_bytes i)) (first_from (id_bytes i) (entries_by f v xs)) (some (entry (id_bytes (f x)) (v x))) ≡ entry_by f v (pick t (first_by f i xs) (some x))
+          → pick (comes_before (id_bytes (f x)) (id_bytes i)) (first_from (id_bytes i) (entries_by f v xs)) (Some (entry (id_bytes (f x)) (v x))) ≡ entry_by f v (pick t (first_by f i xs) (Some x))
       go true e ih = rw e ih
       go false e ih = rw e
 
@@ -43,10 +43,10 @@ module _ {A : Type 0} (f : A → Id) (v : A → ℕ) where
       go (below i (f x)) (before_ids i (f x) p h.0) (last_by f i xs) (last_ids i xs p h.1)
     where
       go : (t : Bool) → comes_before (id_bytes i) (id_bytes (f x)) ≡ t → (o : Option A) → last_up_to (id_bytes i) (entries_by f v xs) ≡ entry_by f v o
-          → pick (comes_before (id_bytes i) (id_bytes (f x))) none (or_else (last_up_to (id_bytes i) (entries_by f v xs)) (some (entry (id_bytes (f x)) (v x)))) ≡ entry_by f v (pick t none (or_else o (some x)))
+          → pick (comes_before (id_bytes i) (id_bytes (f x))) None (option_or (last_up_to (id_bytes i) (entries_by f v xs)) (Some (entry (id_bytes (f x)) (v x)))) ≡ entry_by f v (pick t None (option_or o (Some x)))
       go true e o ih = rw e
-      go false e none ih = rw (e, ih)
-      go false e (some y) ih = rw (e, ih)
+      go false e None ih = rw (e, ih)
+      go false e (Some y) ih = rw (e, ih)
 
   -- they are 16 bytes each
   pub ids_long : (xs : List A) → Keys (λ (k : List ℕ). length k ≡ 16) (entries_by f v xs)

@@ -2,14 +2,13 @@
 use mathlib.Core.Path.{◌≡◌, refl, sym, ap, ap₂, ◌∙◌}
 use mathlib.Core.Bool.{Bool, true, false, true≢false}
 use mathlib.Core.List.{List, [], ◌∷◌}
-use mathlib.Core.Option.{Option, some, none}
 use Prim.Native.Nat.{ℕ, ◌≤◌, ◌<◌, ◌^◌}
 use native.Mathlib.Omega.{arith}
 use lib.Dec.{leb, ltb}
 use lib.ListN.{length}
 use borrow.Author.Tests.{leb-false, lt-ltb, lt-leb}
 use Rattle.octets.specs.Pick.{pick, both}
-use Rattle.octets.specs.Maybe.{is_none}
+use Rattle.std.proofs.Common.{is_none, Option, Some, None}
 use Rattle.octets.specs.Compare.{same, comes_before}
 use Rattle.octets.proofs.Laws.{both_false}
 use Rattle.keys.specs.Entries.{Entry, entry, most_keys, is_key, all_fit, is_map, lookup, has, insert, without}
@@ -56,8 +55,8 @@ map_insert k v es m p q full =
     is_map_lem (insert k v es) (go (lookup k es) refl full) (rising_insert k v es r) (fit_insert k v es p q (map_fit es m))
   where
     go : (o : Option ℕ) → lookup k es ≡ o → both (is_none o) (leb most_keys (length es)) ≡ false → length (insert k v es) ≤ 64
-    go none e f = omega (arith, length_new k v es (ap held_in e), leb-false 64 (length es) f)
-    go (some w) e f = omega (arith, length_held k v es (map_rising es m) (ap held_in e), map_length es m)
+    go None e f = omega (arith, length_new k v es (ap held_in e), leb-false 64 (length es) f)
+    go (Some w) e f = omega (arith, length_held k v es (map_rising es m) (ap held_in e), map_length es m)
 
 pub map_without : (k : List ℕ) (es : List Entry) → is_map es ≡ true → is_map (without k es) ≡ true
 map_without k es m =

@@ -24,4 +24,4 @@ pub use Rattle.keys.proofs.Positions.{rank_held, rank_most}
 pub use Rattle.keys.proofs.Rows.{length_rows, rows_first, rows_none, rows_take, rows_drop, rows_get, rows_same}
 pub use Rattle.keys.proofs.Placing.{is_held, no_room, room_held, room_new, room_full, held_rows, new_rows, held_map, new_map, gone_rows}
 -- tables without a byte past their rows
-pub use Rattle.keys.proofs.Tables.{Exact, exact_none, exact_written, rows_written, exact_table}
+pub use Rattle.keys.proofs.Tables.{table_more}

@@ -2,10 +2,10 @@
 use mathlib.Core.Path.{◌≡◌, refl, sym, ap, ap₂, ◌∙◌}
 use mathlib.Core.Bool.{Bool, true, false, true≢false}
 use mathlib.Core.List.{List, [], ◌∷◌, ◌++◌}
-use mathlib.Core.Option.{Option, some, none}
 use Prim.Native.Nat.{ℕ}
 use Rattle.octets.specs.Pick.{pick, both}
-use Rattle.octets.specs.Maybe.{is_none, or_else}
+use Rattle.std.proofs.Common.{is_none, Option, Some, None}
+use Rattle.std.specs.Option.{option_or}
 use Rattle.octets.specs.Compare.{same, comes_before}
 use Rattle.octets.proofs.Laws.{same_true, same_refl, before_trans, before_differs}
 use Rattle.keys.specs.Entries.{Entry, entry, all_above, rising, lookup, has, insert, without}
@@ -13,24 +13,24 @@ use Rattle.keys.proofs.Every.{Keys, keys_map}
 use Rattle.keys.proofs.Sorted.{both_left, both_right, rising_tail}
 use Rattle.keys.proofs.Sides.{Sides, below, equal, above, sides}
 
-pub lookup_append : (k : List ℕ) (xs ys : List Entry) → lookup k (xs ++ ys) ≡ or_else (lookup k xs) (lookup k ys)
+pub lookup_append : (k : List ℕ) (xs ys : List Entry) → lookup k (xs ++ ys) ≡ option_or (lookup k xs) (lookup k ys)
 unfolding lookup
 lookup_append k [] ys = refl
 lookup_append k (x ∷ xs) ys = go (same k x.key) (lookup_append k xs ys)
   where
-    go : (t : Bool) → lookup k (xs ++ ys) ≡ or_else (lookup k xs) (lookup k ys)
-        → pick t (some x.value) (lookup k (xs ++ ys)) ≡ or_else (pick t (some x.value) (lookup k xs)) (lookup k ys)
+    go : (t : Bool) → lookup k (xs ++ ys) ≡ option_or (lookup k xs) (lookup k ys)
+        → pick t (Some x.value) (lookup k (xs ++ ys)) ≡ option_or (pick t (Some x.value) (lookup k xs)) (lookup k ys)
     go true ih = refl
     go false ih = ih
 
-pub lookup_none : (k : List ℕ) (es : List Entry) → Keys (λ (x : List ℕ). same k x ≡ false) es → lookup k es ≡ none
+pub lookup_none : (k : List ℕ) (es : List Entry) → Keys (λ (x : List ℕ). same k x ≡ false) es → lookup k es ≡ None
 unfolding lookup
 lookup_none k [] h = refl
 lookup_none k (e ∷ es) h = rw h.0 (lookup_none k es h.1)
 
-pub or_none_lem : {A : Type 0} (o : Option A) → or_else o none ≡ o
-or_none_lem none = refl
-or_none_lem (some a) = refl
+pub or_none_lem : {A : Type 0} (o : Option A) → option_or o None ≡ o
+or_none_lem None = refl
+or_none_lem (Some a) = refl
 
 -- put and remove, by where the key stands to the first
 module _ (k : List ℕ) (v : ℕ) (e : Entry) (es : List Entry) where
@@ -55,7 +55,7 @@ module _ (k : List ℕ) (e : Entry) (es : List Entry) where
   unfolding without
   without_other h = rw h
 
-  pub lookup_same : same k e.key ≡ true → lookup k (e ∷ es) ≡ some e.value
+  pub lookup_same : same k e.key ≡ true → lookup k (e ∷ es) ≡ Some e.value
   unfolding lookup
   lookup_same h = rw h
 
@@ -64,12 +64,12 @@ module _ (k : List ℕ) (e : Entry) (es : List Entry) where
   lookup_other h = rw h
 
 -- find after put
-pub lookup_insert : (k : List ℕ) (v : ℕ) (es : List Entry) → lookup k (insert k v es) ≡ some v
+pub lookup_insert : (k : List ℕ) (v : ℕ) (es : List Entry) → lookup k (insert k v es) ≡ Some v
 unfolding insert lookup
 lookup_insert k v [] = rw (same_refl k)
 lookup_insert k v (e ∷ es) = go (sides k e.key) (lookup_insert k v es)
   where
-    go : Sides k e.key → lookup k (insert k v es) ≡ some v → lookup k (insert k v (e ∷ es)) ≡ some v
+    go : Sides k e.key → lookup k (insert k v es) ≡ Some v → lookup k (insert k v (e ∷ es)) ≡ Some v
     go (below b a n) ih = ap (lookup k) (insert_before k v e es n b) ∙ lookup_same k (entry k v) (e ∷ es) (same_refl k)
     go (equal q b a n) ih = ap (lookup k) (insert_same k v e es n) ∙ lookup_same k (entry k v) es (same_refl k)
     go (above b a n) ih = ap (lookup k) (insert_after k v e es n b) ∙ lookup_other k e (insert k v es) n ∙ ih
@@ -84,7 +84,7 @@ lookup_insert_other j k v (e ∷ es) h = go (sides k e.key) (lookup_insert_other
     go (equal q b a n) ih =
         ap (lookup j) (insert_same k v e es n) ∙ lookup_other j (entry k v) es h ∙ sym (lookup_other j e es (ap (same j) (sym q) ∙ h))
     go (above b a n) ih =
-        ap (lookup j) (insert_after k v e es n b) ∙ ap (pick (same j e.key) (some e.value)) ih
+        ap (lookup j) (insert_after k v e es n b) ∙ ap (pick (same j e.key) (Some e.value)) ih
 
 -- above a key it is not found
 above_trans : (a b : List ℕ) (es : List Entry) → comes_before a b ≡ true → all_above b es ≡ true → all_above a es ≡ true
@@ -100,17 +100,17 @@ above_keys k (e ∷ es) h =
     let p = both_left (comes_before k e.key) (all_above e.key es) h in
     (p, above_keys k es (above_trans k e.key es p (both_right (comes_before k e.key) (all_above e.key es) h)))
 
-pub above_absent : (k : List ℕ) (es : List Entry) → all_above k es ≡ true → lookup k es ≡ none
+pub above_absent : (k : List ℕ) (es : List Entry) → all_above k es ≡ true → lookup k es ≡ None
 above_absent k es h =
     lookup_none k es (keys_map (λ (x : List ℕ). comes_before k x ≡ true) (λ (x : List ℕ). same k x ≡ false) (before_differs k) es (above_keys k es h))
 
 -- find after remove
-pub lookup_without : (k : List ℕ) (es : List Entry) → rising es ≡ true → lookup k (without k es) ≡ none
+pub lookup_without : (k : List ℕ) (es : List Entry) → rising es ≡ true → lookup k (without k es) ≡ None
 unfolding rising without lookup
 lookup_without k [] r = refl
 lookup_without k (e ∷ es) r = go (same k e.key) refl (lookup_without k es (rising_tail e.key es r))
   where
-    go : (t : Bool) → same k e.key ≡ t → lookup k (without k es) ≡ none → lookup k (pick t es (e ∷ without k es)) ≡ none
+    go : (t : Bool) → same k e.key ≡ t → lookup k (without k es) ≡ None → lookup k (pick t es (e ∷ without k es)) ≡ None
     go true n ih = above_absent k es (ap (λ (z : List ℕ). all_above z es) (same_true k e.key n) ∙ r)
     go false n ih = lookup_other k e (without k es) n ∙ ih
 
@@ -121,7 +121,7 @@ lookup_without_other j k (e ∷ es) h = go (same k e.key) refl (lookup_without_o
   where
     go : (t : Bool) → same k e.key ≡ t → lookup j (without k es) ≡ lookup j es → lookup j (pick t es (e ∷ without k es)) ≡ lookup j (e ∷ es)
     go true n ih = sym (lookup_other j e es (ap (same j) (sym (same_true k e.key n)) ∙ h))
-    go false n ih = ap (pick (same j e.key) (some e.value)) ih
+    go false n ih = ap (pick (same j e.key) (Some e.value)) ih
 
 -- rising stays
 above_insert : (a k : List ℕ) (v : ℕ) (es : List Entry) → comes_before a k ≡ true → all_above a es ≡ true → all_above a (insert k v es) ≡ true
@@ -181,16 +181,16 @@ has_other k e es h = ap held_in (lookup_other k e es h)
 pub above_has : (k : List ℕ) (es : List Entry) → all_above k es ≡ true → has k es ≡ false
 above_has k es h = ap held_in (above_absent k es h)
 
-pub has_none : (k : List ℕ) (es : List Entry) → has k es ≡ false → lookup k es ≡ none
+pub has_none : (k : List ℕ) (es : List Entry) → has k es ≡ false → lookup k es ≡ None
 has_none k es h = go (lookup k es) h
   where
-    go : (o : Option ℕ) → held_in o ≡ false → o ≡ none
-    go none h = refl
-    go (some v) h = absurd (true≢false h)
+    go : (o : Option ℕ) → held_in o ≡ false → o ≡ None
+    go None h = refl
+    go (Some v) h = absurd (true≢false h)
 
-pub has_some : (k : List ℕ) (es : List Entry) → has k es ≡ true → (v : ℕ) × (lookup k es ≡ some v)
+pub has_some : (k : List ℕ) (es : List Entry) → has k es ≡ true → (v : ℕ) × (lookup k es ≡ Some v)
 has_some k es h = go (lookup k es) h
   where
-    go : (o : Option ℕ) → held_in o ≡ true → (v : ℕ) × (o ≡ some v)
-    go none h = absurd (true≢false (sym h))
-    go (some v) h = (v, refl)
+    go : (o : Option ℕ) → held_in o ≡ true → (v : ℕ) × (o ≡ Some v)
+    go None h = absurd (true≢false (sym h))
+    go (Some v) h = (v, refl)

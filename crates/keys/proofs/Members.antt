@@ -2,7 +2,8 @@
 use mathlib.Core.Bool.{Bool, true, false}
 use mathlib.Core.Path.{◌≡◌, refl, sym, ap, ◌∙◌, subst}
 use mathlib.Core.List.{List, [], ◌∷◌, ◌++◌}
-use mathlib.Core.Option.{some, some-injective, none-ne-some}
+use Rattle.std.proofs.Common.{Some}
+use Rattle.octets.proofs.Options.{some_injective, none_ne_some}
 use Prim.Native.Nat.{ℕ}
 use Rattle.octets.specs.Pick.{pick}
 use Rattle.octets.specs.Compare.{same, comes_before}
@@ -55,14 +56,14 @@ pub data Member (e : Entry) : List Entry → Type 0 where
   there : {f : Entry} {es : List Entry} → Member e es → Member e (f ∷ es)
 
 -- what is found is a member, and of rising entries every member is found
-pub found_member : (k : List ℕ) (v : ℕ) (es : List Entry) → lookup k es ≡ some v → Member (entry k v) es
+pub found_member : (k : List ℕ) (v : ℕ) (es : List Entry) → lookup k es ≡ Some v → Member (entry k v) es
 unfolding lookup
-found_member k v [] h = absurd (none-ne-some v h)
+found_member k v [] h = absurd (none_ne_some v h)
 found_member k v (e ∷ es) h = go (same k e.key) refl (found_member k v es)
   where
-    go : (t : Bool) → same k e.key ≡ t → (lookup k es ≡ some v → Member (entry k v) es) → Member (entry k v) (e ∷ es)
+    go : (t : Bool) → same k e.key ≡ t → (lookup k es ≡ Some v → Member (entry k v) es) → Member (entry k v) (e ∷ es)
     go true n ih =
-        let q : e ≡ entry k v = ap (λ (z : List ℕ). entry z e.value) (sym (same_true k e.key n)) ∙ ap (entry k) (some-injective e.value v (sym (lookup_same k e es n) ∙ h)) in
+        let q : e ≡ entry k v = ap (λ (z : List ℕ). entry z e.value) (sym (same_true k e.key n)) ∙ ap (entry k) (some_injective e.value v (sym (lookup_same k e es n) ∙ h)) in
         subst (λ (f : Entry). Member (entry k v) (f ∷ es)) (sym q) here
     go false n ih = there (ih (sym (lookup_other k e es n) ∙ h))
 
@@ -70,7 +71,7 @@ member_key : (P : List ℕ → Type 0) {e : Entry} {es : List Entry} → Keys P 
 member_key P h here = h.0
 member_key P h (there m) = member_key P h.1 m
 
-pub member_found : {e : Entry} {es : List Entry} → rising es ≡ true → Member e es → lookup e.key es ≡ some e.value
+pub member_found : {e : Entry} {es : List Entry} → rising es ≡ true → Member e es → lookup e.key es ≡ Some e.value
 unfolding rising
 member_found {e} r (here {es}) = lookup_same e.key e es (same_refl e.key)
 member_found {e} r (there {f} {es} m) =

@@ -10,7 +10,7 @@ use borrow.Author.Tests.{ltb-true, ltb-false, le-leb, lt-leb}
 use lib.Dec.{ltb, leb}
 use lib.ListN.{length, take, drop, get_or}
 use Rattle.octets.specs.Pick.{both}
-use Rattle.octets.specs.Maybe.{is_none}
+use Rattle.std.proofs.Common.{is_none}
 use Rattle.octets.specs.Place.{area}
 use Rattle.octets.specs.Compare.{same}
 use Rattle.keys.specs.Entries.{Entry, entry, is_key, is_map, rising, most_keys, lookup, has, insert, without, length_of}

@@ -1,12 +1,13 @@
 -- Put, remove, find and the first key at or above, by the key's place among the rows of a table. Assumes nothing.
 use mathlib.Core.Path.{◌≡◌, refl, sym, ap, ap₂, ◌∙◌}
 use mathlib.Core.Bool.{Bool, true, false, true≢false}
-use mathlib.Core.List.{List, [], ◌∷◌, ◌++◌, head?}
-use mathlib.Core.Option.{Option, some, none}
+use mathlib.Core.List.{List, [], ◌∷◌, ◌++◌}
+use Rattle.std.proofs.Common.{Option, Some, None}
 use Prim.Native.Nat.{ℕ, suc, ◌≤◌, ◌<◌}
 use native.Mathlib.Omega.{arith}
 use lib.ListN.{length, take, drop, get_or, length-append, length-take, length-drop, take-append-drop}
 use lib.Seq.{drop-cons}
+use Rattle.octets.proofs.Options.{head_of}
 use Rattle.octets.specs.Pick.{pick, both}
 use Rattle.octets.specs.Compare.{same, comes_before}
 use Rattle.keys.specs.Entries.{Entry, entry, all_above, rising, lookup, has, insert, without, first_from}
@@ -52,13 +53,13 @@ before_has k e es r b = above_has k (e ∷ es) (ap₂ both b r)
 
 -- the row that has the key
 pub row_held : (k : List ℕ) (es : List Entry) → rising es ≡ true → has k es ≡ true
-    → (v : ℕ) × (lookup k es ≡ some v) × (drop (rank k es) es ≡ entry k v ∷ drop (suc (rank k es)) es)
+    → (v : ℕ) × (lookup k es ≡ Some v) × (drop (rank k es) es ≡ entry k v ∷ drop (suc (rank k es)) es)
 unfolding lookup rising
 row_held k [] r h = absurd (true≢false (sym h))
 row_held k (e ∷ es) r h = go (sides k e.key) (row_held k es (rising_tail e.key es r))
   where
-    go : Sides k e.key → (has k es ≡ true → (v : ℕ) × (lookup k es ≡ some v) × (drop (rank k es) es ≡ entry k v ∷ drop (suc (rank k es)) es))
-        → (v : ℕ) × (lookup k (e ∷ es) ≡ some v) × (drop (rank k (e ∷ es)) (e ∷ es) ≡ entry k v ∷ drop (suc (rank k (e ∷ es))) (e ∷ es))
+    go : Sides k e.key → (has k es ≡ true → (v : ℕ) × (lookup k es ≡ Some v) × (drop (rank k es) es ≡ entry k v ∷ drop (suc (rank k es)) es))
+        → (v : ℕ) × (lookup k (e ∷ es) ≡ Some v) × (drop (rank k (e ∷ es)) (e ∷ es) ≡ entry k v ∷ drop (suc (rank k (e ∷ es))) (e ∷ es))
     go (below b c n) ih = absurd (true≢false (sym h ∙ before_has k e es r b))
     go (equal u b c n) ih = (e.value, lookup_same k e es n, rw (rank_not k e es c) (ap (λ (z : List ℕ). entry z e.value ∷ es) (sym u)))
     go (above b c n) ih =
@@ -106,8 +107,8 @@ module _ (k : List ℕ) where
 
 -- find at the place
 abbrev pub row_value : List ℕ → List Entry → Option ℕ
-row_value k [] = none
-row_value k (e ∷ es) = pick (same k e.key) (some e.value) none
+row_value k [] = None
+row_value k (e ∷ es) = pick (same k e.key) (Some e.value) None
 
 pub lookup_rank : (k : List ℕ) (es : List Entry) → rising es ≡ true → lookup k es ≡ row_value k (drop (rank k es) es)
 unfolding lookup rising rank all_above
@@ -119,7 +120,7 @@ lookup_rank k (e ∷ es) r = go (sides k e.key) (lookup_rank k es (rising_tail e
     go (equal u b c n) ih = lookup_same k e es n ∙ rw (rank_not k e es c, n)
     go (above b c n) ih = lookup_other k e es n ∙ ih ∙ rw (rank_before k e es c)
 
-held_pick : (t : Bool) (v : ℕ) → held_in (pick t (some v) none) ≡ t
+held_pick : (t : Bool) (v : ℕ) → held_in (pick t (Some v) None) ≡ t
 held_pick true v = refl
 held_pick false v = refl
 
@@ -134,12 +135,12 @@ module _ (k : List ℕ) (es : List Entry) (r : rising es ≡ true) where
   has_end h = is_false (has k es) (λ e. absurd (omega (arith, rank_held k es r e)))
 
 -- the first key at or above stands there
-pub first_rank : (k : List ℕ) (es : List Entry) → first_from k es ≡ head? (drop (rank k es) es)
+pub first_rank : (k : List ℕ) (es : List Entry) → first_from k es ≡ head_of (drop (rank k es) es)
 unfolding first_from rank
 first_rank k [] = refl
 first_rank k (e ∷ es) = go (comes_before e.key k) (first_rank k es)
   where
-    go : (t : Bool) → first_from k es ≡ head? (drop (rank k es) es) → pick t (first_from k es) (some e) ≡ head? (drop (pick t (suc (rank k es)) 0) (e ∷ es))
+    go : (t : Bool) → first_from k es ≡ head_of (drop (rank k es) es) → pick t (first_from k es) (Some e) ≡ head_of (drop (pick t (suc (rank k es)) 0) (e ∷ es))
     go true ih = ih
     go false ih = refl
 

@@ -4,8 +4,8 @@ use mathlib.Core.Bool.{Bool, true, false, true≢false}
 use mathlib.Core.List.{List}
 use Prim.Native.Nat.{ℕ}
 use Rattle.octets.specs.Compare.{order_of, is_less, same, comes_before}
-use Rattle.octets.specs.declared.Order.{Order}
-use Rattle.octets.specs.declared.Order.TheVariants.{Less, Equal, Greater}
+use Rattle.std.specs.declared.cmp.Ordering.{Ordering}
+use Rattle.std.specs.declared.cmp.Ordering.TheVariants.{Less, Equal, Greater}
 use Rattle.octets.proofs.Laws.{mirror, order_mirror, order_equal, same_true, same_refl, before_self, before_trans, before_differs}
 
 pub is_false : (t : Bool) → (t ≡ true → ⊥) → t ≡ false
@@ -26,7 +26,7 @@ same_swap a b h = is_false (same b a) (λ e. true≢false (sym (ap (same a) (sam
 pub sides : (a b : List ℕ) → Sides a b
 sides a b = go (order_of a b) refl
   where
-    go : (o : Order) → order_of a b ≡ o → Sides a b
+    go : (o : Ordering) → order_of a b ≡ o → Sides a b
     go Less e = below (ap is_less e) (ap is_less (order_mirror a b ∙ ap mirror e)) (before_differs a b (ap is_less e))
     go Equal e =
         let q = order_equal a b e in

@@ -1,5 +1,5 @@
 -- Tables without a byte past their rows: one row more, and the rows of such a table. Assumes nothing.
-use mathlib.Core.Path.{◌≡◌, refl, sym, ap, ap₂, ◌∙◌, subst⁻¹}
+use mathlib.Core.Path.{◌≡◌, refl, sym, ap, ap₂, ◌∙◌}
 use mathlib.Core.List.{List, [], ◌∷◌, ◌++◌, append_assoc, append-nil}
 use Prim.Native.Nat.{ℕ, zero, suc, ◌+◌, ◌*◌, ◌-◌, ◌≤◌, ◌<◌}
 use native.Mathlib.Omega.{arith}
@@ -11,7 +11,7 @@ use Rattle.keys.specs.Entries.{Entry, entry, length_of}
 use Rattle.keys.specs.Table.{Columns, columns, rows_from, filled, length_column, value_column, key_column, columns_of, table_by, tabled, table_of, with_row, appended}
 use Rattle.keys.specs.declared.Table.{Table}
 use Rattle.keys.proofs.Every.{Short}
-use Rattle.keys.proofs.Rows.{length_rows, row_added}
+use Rattle.keys.proofs.Rows.{length_rows}
 
 zeros_join : (a b : ℕ) → zeros a ++ zeros b ≡ zeros (a + b)
 zeros_join zero b = let e : b ≡ 0 + b = omega arith in ap zeros e
@@ -79,10 +79,6 @@ columns_more es n k v h e l m =
     columns_same : {a a' b b' c c' : List ℕ} → a ≡ a' → b ≡ b' → c ≡ c' → columns a b c ≡ columns a' b' c'
     columns_same p q r = cc
 
--- n rows, and nothing past them
-abbrev pub Exact : Columns → ℕ → Type 0
-Exact t n = t ≡ columns_of (rows_from t 0 n)
-
 length_part : (at n : ℕ) (s : List ℕ) → length (area at n s) ≤ n
 unfolding area
 length_part at n s = omega (arith, length-take n (drop at s))
@@ -92,38 +88,7 @@ unfolding rows_from
 rows_short t i zero = tt
 rows_short t i (suc n) = (omega (arith, length_part (16 * i) (length_of t.len i) t.key), rows_short t (i + 1) n)
 
-pub exact_none : Exact (columns (zeros 64) (zeros 64) (zeros 1024)) 0
-unfolding rows_from columns_of length_column value_column key_column
-exact_none = refl
-
--- a row written after the others
-exact_more : (t : Columns) (n : ℕ) (k : List ℕ) (v : ℕ) → length t.len ≡ 64 → length t.val ≡ 64 → length t.key ≡ 1024 → Exact t n → n < 64 → length k ≤ 16
-    → Exact (with_row t n k v) (n + 1)
-exact_more t n k v a b c x l m =
-    let es : List Entry = rows_from t 0 n in
-    let s : n + 1 ≡ suc n = omega arith in
-    ap (λ (u : Columns). with_row u n k v) x
-    ∙ columns_more es n k v (rows_short t 0 n) (length_rows t 0 n) l m
-    ∙ ap columns_of (sym (ap (rows_from (with_row t n k v) 0) s ∙ row_added t.len t.val t.key n (length k) v k a b c l refl m))
-
--- the same, as the code writes it: the key, d bytes
-module _ (u : Columns) (n d v : ℕ) (bs key : List ℕ) (a : length u.len ≡ 64) (b : length u.val ≡ 64) (c : length u.key ≡ 1024) (l : n < 64) (e : length bs ≡ d) (h : d ≤ 16)
-    (f : key ≡ put u.key (16 * n) bs) where
-  pub exact_written : Exact u n → Exact (columns (set u.len n d) (set u.val n v) key) (n + 1)
-  exact_written x =
-      subst⁻¹ (λ (w : Columns). Exact w (n + 1)) (ap₂ (λ (w : ℕ) (z : List ℕ). columns (set u.len n w) (set u.val n v) z) (sym e) f)
-      (exact_more u n bs v a b c x l (omega arith))
-
-  pub rows_written : rows_from (columns (set u.len n d) (set u.val n v) key) 0 (n + 1) ≡ rows_from u 0 n ++ (entry bs v ∷ [])
-  rows_written =
-      let s : n + 1 ≡ suc n = omega arith in
-      ap₂ (λ (z : List ℕ) (m : ℕ). rows_from (columns (set u.len n d) (set u.val n v) z) 0 m) f s
-      ∙ row_added u.len u.val u.key n d v bs a b c l e h
-
--- the table of columns that have n rows
-pub exact_table : (t : Columns) (n : ℕ) → Exact t n → table_by n t ≡ table_of (rows_from t 0 n)
-exact_table t n x = ap₂ table_by (sym (length_rows t 0 n)) x
-
+-- a row pushed on the table of entries gives the table of one entry more
 pub table_more : (t : Table) (k : List ℕ) (v : ℕ) → t ≡ table_of (tabled t) → t.n < 64 → length k ≤ 16 → appended t k v ≡ table_of (tabled t ++ (entry k v ∷ []))
 table_more t k v x l m =
     let c : Columns = columns t.len t.val t.key in

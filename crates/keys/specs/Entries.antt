@@ -1,9 +1,8 @@
 -- The entries of an index (01, The index): a finite map from keys to 32-bit values, as a list in rising order of the keys.
 -- Order is bytewise, a prefix first. Assumes nothing.
-use Rattle.std.specs.Prelude.{Bool, true, List, [], ◌∷◌, ℕ, ◌^◌, min, leb, ltb, length, get_or}
-use Rattle.std.proofs.Math.Option.{Option, some, none}
+use Rattle.std.specs.Prelude.{Bool, true, List, [], ◌∷◌, ℕ, ◌^◌, min, leb, ltb, length, get_or, is_none, Option, Some, None}
 use Rattle.octets.specs.Pick.{pick, both}
-use Rattle.octets.specs.Maybe.{is_none, or_else}
+use Rattle.std.specs.Option.{option_or}
 use Rattle.octets.specs.Compare.{comes_before, same}
 
 pub record Entry : Type 0 where
@@ -43,8 +42,8 @@ is_map es = both (both (leb (length es) most_keys) (rising es)) (all_fit es)
 
 -- find
 unfoldable pub lookup : List ℕ → List Entry → Option ℕ
-lookup k [] = none
-lookup k (e ∷ es) = pick (same k e.key) (some e.value) (lookup k es)
+lookup k [] = None
+lookup k (e ∷ es) = pick (same k e.key) (Some e.value) (lookup k es)
 
 abbrev pub has : List ℕ → List Entry → Bool
 has k es = pick (is_none (lookup k es)) Bool.false true
@@ -62,10 +61,10 @@ without k (e ∷ es) = pick (same k e.key) es (e ∷ without k es)
 
 -- first key at or above k: the first that does not come before k
 unfoldable pub first_from : List ℕ → List Entry → Option Entry
-first_from k [] = none
-first_from k (e ∷ es) = pick (comes_before e.key k) (first_from k es) (some e)
+first_from k [] = None
+first_from k (e ∷ es) = pick (comes_before e.key k) (first_from k es) (Some e)
 
 -- last key at or below k: the last that k does not come before
 unfoldable pub last_up_to : List ℕ → List Entry → Option Entry
-last_up_to k [] = none
-last_up_to k (e ∷ es) = pick (comes_before k e.key) none (or_else (last_up_to k es) (some e))
+last_up_to k [] = None
+last_up_to k (e ∷ es) = pick (comes_before k e.key) None (option_or (last_up_to k es) (Some e))

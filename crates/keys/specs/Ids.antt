@@ -1,9 +1,8 @@
 -- Entries whose keys are the 16 bytes of IDs (01, The index: "here 16: ms then seq, big-endian"), made of a list of anything that has an
 -- ID and a value, and their order by the IDs. Assumes nothing.
-use Rattle.std.specs.Prelude.{Bool, true, List, [], ◌∷◌, ℕ}
-use Rattle.std.proofs.Math.Option.{Option, some, none}
+use Rattle.std.specs.Prelude.{Bool, true, List, [], ◌∷◌, ℕ, Option, Some, None}
 use Rattle.octets.specs.Pick.{pick, both}
-use Rattle.octets.specs.Maybe.{or_else}
+use Rattle.std.specs.Option.{option_or}
 use Rattle.id.specs.declared.Id.{Id}
 use Rattle.id.specs.Id.{below, Fits64}
 use Rattle.id.specs.Bytes.{id_bytes}
@@ -14,8 +13,8 @@ entries_by f v [] = []
 entries_by f v (x ∷ xs) = entry (id_bytes (f x)) (v x) ∷ entries_by f v xs
 
 abbrev pub entry_by : {A : Type 0} → (A → Id) → (A → ℕ) → Option A → Option Entry
-entry_by f v none = none
-entry_by f v (some x) = some (entry (id_bytes (f x)) (v x))
+entry_by f v None = None
+entry_by f v (Some x) = Some (entry (id_bytes (f x)) (v x))
 
 abbrev pub AllFit64 : {A : Type 0} → (A → Id) → List A → Type 0
 AllFit64 f [] = Unit {0}
@@ -28,9 +27,9 @@ above_by f i (x ∷ xs) = both (below i (f x)) (above_by f (f x) xs)
 
 -- the first at or above i, and the last at or below
 unfoldable pub first_by : {A : Type 0} → (A → Id) → Id → List A → Option A
-first_by f i [] = none
-first_by f i (x ∷ xs) = pick (below (f x) i) (first_by f i xs) (some x)
+first_by f i [] = None
+first_by f i (x ∷ xs) = pick (below (f x) i) (first_by f i xs) (Some x)
 
 unfoldable pub last_by : {A : Type 0} → (A → Id) → Id → List A → Option A
-last_by f i [] = none
-last_by f i (x ∷ xs) = pick (below i (f x)) none (or_else (last_by f i xs) (some x))
+last_by f i [] = None
+last_by f i (x ∷ xs) = pick (below i (f x)) None (option_or (last_by f i xs) (Some x))

@@ -1,8 +1,6 @@
 -- The operations of an index and what each answers (01, The index and Refusal numbers). Assumes nothing.
-use Rattle.std.specs.Prelude.{Bool, true, false, not, List, [], ◌∷◌, ℕ, leb, eqb, length}
-use Rattle.std.proofs.Math.Option.{Option, some, none}
+use Rattle.std.specs.Prelude.{Bool, true, false, not, List, [], ◌∷◌, ℕ, leb, eqb, length, is_none, Option, Some, None}
 use Rattle.octets.specs.Pick.{pick, both}
-use Rattle.octets.specs.Maybe.{is_none}
 use Rattle.keys.specs.Entries.{Entry, is_key, most_keys, lookup, has, insert, without, first_from, last_up_to}
 
 pub data Operation : Type 0 where
@@ -40,12 +38,12 @@ unfoldable pub remove_from : List ℕ → List Entry → Replied
 remove_from k es = pick (has k es) (record { reply = removed 1; after = without k es }) (stays es (removed 0))
 
 abbrev pub value_reply : Option ℕ → Reply
-value_reply none = nothing
-value_reply (some v) = value v
+value_reply None = nothing
+value_reply (Some v) = value v
 
 abbrev pub entry_reply : Option Entry → Reply
-entry_reply none = nothing
-entry_reply (some e) = found e
+entry_reply None = nothing
+entry_reply (Some e) = found e
 
 abbrev pub operate : Operation → List Entry → Replied
 operate (put k v) es = keyed k es (put_to k v es)
@@ -56,13 +54,13 @@ operate (last_at_or_below k) es = keyed k es (stays es (entry_reply (last_up_to 
 
 -- what an index answers that holds the entries e: 2, where it holds none
 abbrev pub reply_in : Operation → Option (List Entry) → Reply
-reply_in o none = refused 2
-reply_in o (some es) = (operate o es).reply
+reply_in o None = refused 2
+reply_in o (Some es) = (operate o es).reply
 
 -- the entries after it
 abbrev pub entries_after : Operation → Option (List Entry) → Option (List Entry)
-entries_after o none = none
-entries_after o (some es) = some (operate o es).after
+entries_after o None = None
+entries_after o (Some es) = Some (operate o es).after
 
 -- 01's number of a reply: the refusal's, 32 for none, else 0
 abbrev pub code_of : Reply → ℕ

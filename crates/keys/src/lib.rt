@@ -3,9 +3,12 @@
 
 #![tactic(auto)]
 
+ghost use Rattle.std.specs.Prelude.{◌≡◌};
+ghost use Rattle.keys.specs.Answer.{number_of};
+
 mod row;
 
-pub use row::{append, is_key, is_row, no_rows, rank_of, row_len, with_row, without_row};
+pub use row::{append, is_key, is_row, no_rows, push, rank_of, row_len, with_row, without_row};
 
 // Entries in order: n rows, the key of row i at 16 i.
 #[derive(Clone, Copy)]
@@ -16,36 +19,26 @@ pub struct Table {
     pub key: [u8; 1024],
 }
 
-// The entries of an index, where ok says that it holds any; else no rows.
-#[derive(Clone, Copy)]
-pub struct Listed {
-    pub ok: bool,
-    pub table: Table,
-}
-
-// What an operation answers.
-#[derive(Clone, Copy)]
-pub enum Answer {
-    Done,
-    Removed(u32),
-    Held(u32),
-    Absent,
-    Refused(u32),
-}
-
-// Whether a key has a neighbour.
-#[derive(Clone, Copy)]
-pub enum Outcome {
-    Found,
-    Nothing,
-    Refused(u32),
-}
-
-// The neighbour of a key, where one was found: the first len bytes of key, and its value; else zeros.
+// A key and its value: the first len bytes of key, and zeros after them.
 #[derive(Clone, Copy)]
 pub struct Neighbour {
-    pub outcome: Outcome,
     pub len: usize,
     pub value: u32,
     pub key: [u8; 16],
+}
+
+// Why an operation is refused, by the numbers of 01.
+#[derive(Clone, Copy, PartialEq, Eq)]
+pub enum Refusal {
+    Damaged = 2,
+    BadKey = 3,
+    Full = 18,
+}
+
+impl Refusal {
+    pub fn number(self) -> u32
+        ensures { result ≡ number_of self }
+    {
+        self as u32
+    }
 }

@@ -25,11 +25,7 @@ pub fn row_len(len: &[u8; 64], i: usize) -> usize
     requires { i < 64 }
     ensures { (result ≡ length_of len.now i) × (result ≤ 16) }
 {
-    let n = octets::wide_place(len[i]);
-    if 16 < n {
-        return 16;
-    }
-    n
+    (len[i] as usize).min(16)
 }
 
 pub fn no_rows() -> Table
@@ -44,23 +40,24 @@ pub fn no_rows() -> Table
 }
 
 // One row more, at the end.
+pub fn push(t: &mut Table, k: &[u8], v: u32)
+    requires { (t.old.n < 64) × (length k.now ≤ 16) }
+    ensures { (tabled t.new ≡ tabled t.old ++ (entry k.now v ∷ [])) × (t.new ≡ appended t.old k.now v) }
+{
+    let n = t.n;
+    t.len[n] = k.len() as u8;
+    t.val[n] = v;
+    octets::copy_in(&mut t.key, 16 * n, k);
+    t.n = n + 1;
+}
+
 pub fn append(t: Table, k: &[u8], v: u32) -> Table
     requires { (t.n < 64) × (length k.now ≤ 16) }
     ensures { (tabled result ≡ tabled t ++ (entry k.now v ∷ [])) × (result.n ≡ t.n + 1) × (result ≡ appended t k.now v) }
 {
-    let n = t.n;
-    let mut len = t.len;
-    let mut val = t.val;
-    let mut key = t.key;
-    len[n] = k.len() as u8;
-    val[n] = v;
-    octets::copy_in(&mut key, 16 * n, k);
-    Table {
-        n: n + 1,
-        len,
-        val,
-        key,
-    }
+    let mut more = t;
+    push(&mut more, k, v);
+    more
 }
 
 // The rows from a on, and before b, added to those of a table that has nothing past its rows.
@@ -68,24 +65,13 @@ fn copy_rows(from: Table, a: usize, b: usize, to: Table) -> Table
     requires { (a ≤ b) × ((b ≤ 64) × ((to.n + (b - a) ≤ 64) × (to ≡ table_of (tabled to)))) }
     ensures { (tabled result ≡ tabled to ++ rows_from (columns from.len from.val from.key) a (b - a)) × (result.n ≡ to.n + (b - a)) × (result ≡ table_of (tabled result)) }
 {
-    let lens = from.len;
-    let vals = from.val;
-    let keys = from.key;
-    let mut n = to.n;
-    let mut len = to.len;
-    let mut val = to.val;
-    let mut key = to.key;
-    let mut i = a;
-    while i < b {
+    let mut t = to;
+    for i in a..b {
         let at = 16 * i;
-        let m = row_len(&lens, i);
-        len[n] = m as u8;
-        val[n] = vals[i];
-        octets::copy_in(&mut key, 16 * n, &keys[at..at + m]);
-        n += 1;
-        i += 1;
+        let m = row_len(&from.len, i);
+        push(&mut t, &from.key[at..at + m], from.val[i]);
     }
-    Table { n, len, val, key }
+    t
 }
 
 // How many keys come before k.
@@ -93,19 +79,14 @@ pub fn rank_of(t: Table, k: &[u8]) -> usize
     requires { t.n ≤ 64 }
     ensures { result ≡ rank k.now (tabled t) }
 {
-    let n = t.n;
-    let len = t.len;
-    let key = t.key;
-    let mut i = 0;
-    while i < n {
+    for i in 0..t.n {
         let at = 16 * i;
-        let m = row_len(&len, i);
-        if !octets::comes_before(&key[at..at + m], k) {
+        let m = row_len(&t.len, i);
+        if !octets::comes_before(&t.key[at..at + m], k) {
             return i;
         }
-        i += 1;
     }
-    i
+    t.n
 }
 
 // Whether row i has the key k.
@@ -116,11 +97,9 @@ pub fn is_row(t: Table, i: usize, k: &[u8]) -> bool
     if t.n <= i {
         return false;
     }
-    let len = t.len;
-    let key = t.key;
     let at = 16 * i;
-    let m = row_len(&len, i);
-    octets::equal(k, &key[at..at + m])
+    let m = row_len(&t.len, i);
+    octets::equal(k, &t.key[at..at + m])
 }
 
 // The first r rows, a new one, and those from s on.
@@ -128,8 +107,7 @@ pub fn with_row(t: Table, r: usize, s: usize, k: &[u8], v: u32) -> Table
     requires { (r ≤ s) × ((s ≤ t.n) × ((t.n ≤ 64) × ((r + 1 + (t.n - s) ≤ 64) × (length k.now ≤ 16)))) }
     ensures { (tabled result ≡ take r (tabled t) ++ (entry k.now v ∷ drop s (tabled t))) × (result ≡ table_of (tabled result)) }
 {
-    let n = t.n;
-    copy_rows(t, s, n, append(copy_rows(t, 0, r, no_rows()), k, v))
+    copy_rows(t, s, t.n, append(copy_rows(t, 0, r, no_rows()), k, v))
 }
 
 // All rows but row r.
@@ -137,6 +115,5 @@ pub fn without_row(t: Table, r: usize) -> Table
     requires { (r < t.n) × (t.n ≤ 64) }
     ensures { (tabled result ≡ take r (tabled t) ++ drop (r + 1) (tabled t)) × (result ≡ table_of (tabled result)) }
 {
-    let n = t.n;
-    copy_rows(t, r + 1, n, copy_rows(t, 0, r, no_rows()))
+    copy_rows(t, r + 1, t.n, copy_rows(t, 0, r, no_rows()))
 }

@@ -2,7 +2,7 @@
 use mathlib.Core.Path.{◌≡◌, refl, sym, ap, ◌∙◌}
 use mathlib.Core.Bool.{Bool, true, false}
 use mathlib.Core.List.{List}
-use mathlib.Core.Option.{some, none}
+use Rattle.std.proofs.Common.{Some, None}
 use Prim.Native.Nat.{ℕ, ◌^◌, ◌<◌}
 use native.Mathlib.Omega.{arith}
 use lib.Dec.{eqb}
@@ -21,7 +21,7 @@ differ a b h = by (same a b) refl
     by false e = refl
 
 module _ (p : ℕ) (x : List ℕ) (below : p < 2 ^ 64) where
-  pub same_text : (q : ℕ) → pattern_of x ≡ some q → same (text_of p) x ≡ eqb q p
+  pub same_text : (q : ℕ) → pattern_of x ≡ Some q → same (text_of p) x ≡ eqb q p
   same_text q e = by (eqb q p) refl
     where
       by : (t : Bool) → eqb q p ≡ t → same (text_of p) x ≡ t
@@ -30,14 +30,14 @@ module _ (p : ℕ) (x : List ℕ) (below : p < 2 ^ 64) where
       by false k =
           differ (text_of p) x
           (λ f.
-          let g : some q ≡ some p = sym e ∙ ap pattern_of (sym f) ∙ pattern_of_text p below in
+          let g : Some q ≡ Some p = sym e ∙ ap pattern_of (sym f) ∙ pattern_of_text p below in
           let z : q ≡ p = cc in
           eqb-false q p k z)
 
-  pub other_text : pattern_of x ≡ none → same (text_of p) x ≡ false
+  pub other_text : pattern_of x ≡ None → same (text_of p) x ≡ false
   other_text e =
       differ (text_of p) x
       (λ f.
-      let g : ◌≡◌ none (some p) = sym e ∙ ap pattern_of (sym f) ∙ pattern_of_text p below in
+      let g : ◌≡◌ None (Some p) = sym e ∙ ap pattern_of (sym f) ∙ pattern_of_text p below in
       let z : ◌≡◌ {A = ℕ} 0 1 = cc in
       omega arith)

@@ -1,7 +1,7 @@
 -- Elements computed, at the bounds of the forms, and refusals; those that 01 marks are in the crate examples. Assumes nothing.
 use mathlib.Core.Path.{◌≡◌, refl}
 use mathlib.Core.List.{List, [], ◌∷◌, ◌++◌, map}
-use mathlib.Core.Option.{Option, some, none}
+use Rattle.std.proofs.Common.{Option, Some, None}
 use Prim.Native.Nat.{ℕ}
 use lib.ListN.{length}
 use Rattle.octets.specs.Bytes.{le, le_value}
@@ -33,7 +33,7 @@ unfolding table element encode_item item_of integer_body text_head back_length f
 written = refl
 
 abbrev found : Row → Option Parsed
-found r = some (record { string = r.string; size = length r.bytes })
+found r = Some (record { string = r.string; size = length r.bytes })
 
 read : map (λ (r : Row). parse (r.bytes ++ (7 ∷ []))) table ≡ map found table
 unfolding table parse read_element read_by read_wide integer_stands as_integer close_integer text_stands as_text close_text tag_width back_at extend integer_body text_head back_length fits narrow le le_value area pattern_of signed_of negative_of unsigned_of positive_of digits_after same text_of natural_text digits_of
@@ -52,6 +52,6 @@ table_refused =
     ∷ (0xFF ∷ 0x01 ∷ [])
     ∷ []
 
-refused : map parse table_refused ≡ map (λ (b : List ℕ). none) table_refused
+refused : map parse table_refused ≡ map (λ (b : List ℕ). None) table_refused
 unfolding table_refused parse read_element read_by read_wide integer_stands as_integer close_integer text_stands as_text close_text tag_width back_at extend integer_body text_head back_length fits narrow le le_value area pattern_of signed_of negative_of unsigned_of positive_of digits_after same
 refused = refl

@@ -1,8 +1,7 @@
 -- What each definition of the reader says at each answer of the code. Assumes nothing.
-use mathlib.Core.Path.{◌≡◌, refl, sym, ◌∙◌}
+use mathlib.Core.Path.{◌≡◌, refl, ◌∙◌}
 use mathlib.Core.Bool.{Bool, true, false}
 use mathlib.Core.List.{List}
-use mathlib.Core.Option.{Option, some, none}
 use Prim.Native.Nat.{ℕ, suc, ◌+◌, ◌-◌, ◌*◌, ◌/◌, ◌%◌, ◌≤◌, ◌<◌}
 use native.Mathlib.Numerals.{add-one}
 use native.Mathlib.Omega.{arith}
@@ -14,17 +13,15 @@ use Rattle.octets.specs.Bytes.{le_value}
 use Rattle.octets.specs.Place.{area}
 use Rattle.octets.specs.Compare.{same}
 use Rattle.octets.specs.Pick.{pick}
-use Rattle.octets.specs.Maybe.{is_none}
-use Rattle.decimal.specs.Integer.{pattern_of, recognised_by}
-use Rattle.decimal.specs.declared.Recognised.{Recognised}
-use Rattle.decimal.specs.declared.Recognised.TheVariants.{Integer as Numeral, Other}
+use Rattle.std.proofs.Common.{is_none, Some, None}
+use Rattle.decimal.specs.Integer.{pattern_of}
 use Rattle.octets.proofs.Laws.{same_length}
 use Rattle.listpack.specs.Width.{extend, half_of}
 use Rattle.listpack.specs.Element.{integer_body, text_head, back_length}
 use Rattle.listpack.specs.Read.{back_at, integer_stands, as_integer, close_integer, text_stands, as_text, close_text, tag_width, read_wide, read_by, read_element}
-use Rattle.listpack.specs.declared.Element.TheVariants.{Integer, Text, Bad}
 use Rattle.octets.proofs.Laws.{pick_same}
 use Rattle.listpack.proofs.Forms.{back_size}
+use Rattle.listpack.specs.declared.Element.TheVariants.{Integer, Text}
 
 pub pick_self : (t : Bool) → pick t true false ≡ t
 pick_self true = refl
@@ -61,33 +58,17 @@ module _ (s : List ℕ) (p n : ℕ) where
   unfolding integer_stands
   integer_last h = simp eq-eqb
 
-  pub integer_closed : length (integer_body p) ≡ n → back_at n s ≡ true → close_integer s p n ≡ Integer p (n + length (back_length n))
+  pub integer_closed : length (integer_body p) ≡ n → back_at n s ≡ true → close_integer s p n ≡ Some (Integer p (n + length (back_length n)))
   unfolding close_integer as_integer
   integer_closed h e = rw (integer_last h, e)
 
-pub integer_made : (p n : ℕ) → as_integer p n true ≡ Integer p (n + length (back_length n))
+pub integer_made : (p n : ℕ) → as_integer p n true ≡ Some (Integer p (n + length (back_length n)))
 unfolding as_integer
 integer_made p n = refl
 
-pub integer_bad : (p n : ℕ) → as_integer p n false ≡ Bad
+pub integer_bad : (p n : ℕ) → as_integer p n false ≡ None
 unfolding as_integer
 integer_bad p n = refl
-
--- what recognise says
-module _ (s : List ℕ) (r : Recognised) (e : r ≡ recognised_by (pattern_of s)) where
-  pub recognised_some : (p : ℕ) → r ≡ Numeral p → pattern_of s ≡ some p
-  recognised_some p f = by (pattern_of s) (sym e ∙ f)
-    where
-      by : (q : Option ℕ) → recognised_by q ≡ Numeral p → q ≡ some p
-      by none k = absurd (let z : ◌≡◌ {A = ℕ} 0 1 = cc in omega arith)
-      by (some n) k = cc
-
-  pub recognised_none : r ≡ Other → pattern_of s ≡ none
-  recognised_none f = by (pattern_of s) (sym e ∙ f)
-    where
-      by : (q : Option ℕ) → recognised_by q ≡ Other → q ≡ none
-      by none k = refl
-      by (some n) k = absurd (let z : ◌≡◌ {A = ℕ} 0 1 = cc in omega arith)
 
 -- a text, likewise
 module _ (s : List ℕ) (at l : ℕ) where
@@ -103,25 +84,25 @@ module _ (s : List ℕ) (at l : ℕ) where
   unfolding text_stands
   text_last h e = simp (eq-eqb, e)
 
-  pub text_closed : text_stands s at l ≡ true → close_text s at l ≡ Text at l (at + l + length (back_length (at + l)))
+  pub text_closed : text_stands s at l ≡ true → close_text s at l ≡ Some (Text at l (at + l + length (back_length (at + l))))
   unfolding close_text as_text
   text_closed e = rw e
 
-pub text_made : (at l : ℕ) → as_text at l true ≡ Text at l (at + l + length (back_length (at + l)))
+pub text_made : (at l : ℕ) → as_text at l true ≡ Some (Text at l (at + l + length (back_length (at + l))))
 unfolding as_text
 text_made at l = refl
 
-pub text_bad : (at l : ℕ) → as_text at l false ≡ Bad
+pub text_bad : (at l : ℕ) → as_text at l false ≡ None
 unfolding as_text
 text_bad at l = refl
 
 -- a number of w bytes
 module _ (w : ℕ) (s : List ℕ) where
-  pub wide_no : w ≡ 0 → read_wide w s ≡ Bad
+  pub wide_no : w ≡ 0 → read_wide w s ≡ None
   unfolding read_wide
   wide_no h = simp eq-eqb
 
-  pub wide_none : (w ≡ 0 → ⊥) → length s ≤ w → read_wide w s ≡ Bad
+  pub wide_none : (w ≡ 0 → ⊥) → length s ≤ w → read_wide w s ≡ None
   unfolding read_wide
   wide_none k h = simp (ne_eqb, le-ltb)
 
@@ -130,7 +111,7 @@ module _ (w : ℕ) (s : List ℕ) where
   wide_some v e k h = rw (e, ne_eqb w 0 k, lt-ltb w (length s) h)
 
 -- by the first byte
-pub read_none : (s : List ℕ) → length s < 2 → read_element s ≡ Bad
+pub read_none : (s : List ℕ) → length s < 2 → read_element s ≡ None
 unfolding read_element
 read_none s h = simp lt-ltb
 

@@ -1,7 +1,7 @@
 -- An element's kind is that of its string: an integer's is recognised with the integer's pattern, a text's is not. Assumes nothing.
 use mathlib.Core.Path.{◌≡◌, refl, sym, ap, ap₂, ◌∙◌, subst}
 use mathlib.Core.List.{List}
-use mathlib.Core.Option.{some, none}
+use Rattle.std.proofs.Common.{Some, None}
 use Prim.Native.Nat.{ℕ, ◌+◌, ◌≤◌, ◌<◌}
 use lib.ListN.{get_or, drop}
 use Rattle.octets.specs.Bytes.{Bytes}
@@ -11,37 +11,37 @@ use Rattle.decimal.proofs.Laws.{pattern_of_text}
 use Rattle.listpack.specs.Read.{read_element}
 use Rattle.listpack.specs.Known.{ElementAt, string_at, size_at, pattern_at, after_at, number_at}
 use Rattle.listpack.specs.declared.value.Number.{Number}
-use Rattle.listpack.specs.declared.Element.TheVariants.{Integer, Text}
 use Rattle.listpack.proofs.Sound.{Sound, sound}
 use Rattle.listpack.proofs.There.{size_by, pattern_by_lem, tiny_there, text_there, short_there, long_there, integer_there, tagged_there, integer_string, text_string}
+use Rattle.listpack.specs.declared.Element.TheVariants.{Integer, Text}
 
 module _ (s : List ℕ) (at : ℕ) (b : Bytes s) (k : ElementAt s at) where
-  stored_integer : (p n : ℕ) → read_element (drop at s) ≡ Integer p n → pattern_of (string_at s at) ≡ some p
+  stored_integer : (p n : ℕ) → read_element (drop at s) ≡ Some (Integer p n) → pattern_of (string_at s at) ≡ Some p
   stored_integer p n e =
       let y = subst (Sound (drop at s)) e (sound (drop at s) (bytes_drop at b)) in
       ap pattern_of (integer_string s at b k _ refl p n e) ∙ pattern_of_text p y.below
 
-  stored_text : (a l n : ℕ) → read_element (drop at s) ≡ Text a l n → pattern_of (string_at s at) ≡ none
+  stored_text : (a l n : ℕ) → read_element (drop at s) ≡ Some (Text a l n) → pattern_of (string_at s at) ≡ None
   stored_text a l n e =
       let y = subst (Sound (drop at s)) e (sound (drop at s) (bytes_drop at b)) in
       ap pattern_of (text_string s at b k _ refl a l n e) ∙ y.other
 
   -- by the first byte
   module _ (f : ℕ) (first : f ≡ get_or s at 0) where
-    pub tiny_stored : f < 128 → pattern_of (string_at s at) ≡ some f
+    pub tiny_stored : f < 128 → pattern_of (string_at s at) ≡ Some f
     tiny_stored h = stored_integer f 2 (tiny_there s at k f first h)
 
-    pub text_stored : 128 ≤ f → f < 192 → pattern_of (string_at s at) ≡ none
+    pub text_stored : 128 ≤ f → f < 192 → pattern_of (string_at s at) ≡ None
     text_stored h i = stored_text _ _ _ (text_there s at k f first h i)
 
-    pub short_stored : 192 ≤ f → f < 224 → pattern_of (string_at s at) ≡ some (pattern_at s at)
+    pub short_stored : 192 ≤ f → f < 224 → pattern_of (string_at s at) ≡ Some (pattern_at s at)
     short_stored h i =
         stored_integer _ _ (sym (integer_there s at _ _ _ _ (short_there s at k f first _ refl h i) refl refl))
 
-    pub long_stored : 224 ≤ f → f < 240 → pattern_of (string_at s at) ≡ none
+    pub long_stored : 224 ≤ f → f < 240 → pattern_of (string_at s at) ≡ None
     long_stored h i = stored_text _ _ _ (long_there s at k f first _ refl h i)
 
-    pub wide_stored : 240 ≤ f → pattern_of (string_at s at) ≡ some (pattern_at s at)
+    pub wide_stored : 240 ≤ f → pattern_of (string_at s at) ≡ Some (pattern_at s at)
     wide_stored h = stored_integer _ _ (sym (tagged_there s at k f first h _ _ refl refl))
 
 -- an integer and the place after it, by its first byte where it is of 7 bits

@@ -11,7 +11,7 @@ use borrow.Author.Tests.{lt-ltb, le-ltb, eq-eqb, ltb-false, eqb-true, eqb-false}
 use Rattle.octets.specs.Pick.{pick}
 use Rattle.octets.specs.Bytes.{Bytes, le_value}
 use Rattle.octets.specs.Place.{area}
-use Rattle.octets.specs.Maybe.{is_none}
+use Rattle.std.proofs.Common.{is_none, Option, Some, None}
 use Rattle.octets.proofs.Laws.{both_true, both_of, bytes_drop, area_drop, length_area, never, pick_by}
 use Rattle.decimal.specs.Text.{text_of}
 use Rattle.listpack.specs.Width.{extend, half_of}
@@ -19,21 +19,21 @@ use Rattle.listpack.specs.Element.{back_length}
 use Rattle.listpack.specs.Read.{parse, as_integer, close_integer, integer_stands, as_text, close_text, text_stands, tag_width, read_wide, read_by, read_element}
 use Rattle.listpack.specs.AtPlace.{size_of}
 use Rattle.listpack.specs.Known.{ElementAt, ElementsAt, string_by, string_at, pattern_in, size_at, pattern_at, after_at, end_at, are_there, text_in, text_at, start_in, start_at}
-use Rattle.listpack.specs.declared.Element.{Element}
-use Rattle.listpack.specs.declared.Element.TheVariants.{Integer, Text, Bad}
 use Rattle.listpack.proofs.Sound.{Sound, sound}
 use Rattle.listpack.proofs.Strings.{parse_by}
 use Rattle.listpack.proofs.Leaves.{tag_16, tag_24, tag_32, tag_64, tag_none}
 use Rattle.listpack.proofs.Walks.{size_within}
+use Rattle.listpack.specs.declared.Element.{Element}
+use Rattle.listpack.specs.declared.Element.TheVariants.{Integer, Text}
 
 -- an element whose tests all hold
-abbrev closed_integer : ℕ → ℕ → Element
-closed_integer p n = Integer p (n + length (back_length n))
+abbrev closed_integer : ℕ → ℕ → Option Element
+closed_integer p n = Some (Integer p (n + length (back_length n)))
 
-abbrev closed_text : ℕ → ℕ → Element
-closed_text at l = Text at l (at + l + length (back_length (at + l)))
+abbrev closed_text : ℕ → ℕ → Option Element
+closed_text at l = Some (Text at l (at + l + length (back_length (at + l))))
 
-unfoldable pub loose_by : ℕ → ℕ → List ℕ → Element
+unfoldable pub loose_by : ℕ → ℕ → List ℕ → Option Element
 loose_by b c s =
     pick (ltb b 128) (closed_integer b 1)
     (pick (ltb b 192) (closed_text 1 (b - 128))
@@ -41,21 +41,21 @@ loose_by b c s =
     (pick (ltb b 240) (closed_text 2 (256 * (b - 224) + c))
     (closed_integer (extend (half_of (tag_width b)) (le_value (area 1 (tag_width b) s))) (1 + tag_width b)))))
 
-abbrev stands : Element → Bool
-stands (Integer p n) = true
-stands (Text at l n) = true
-stands Bad = false
+abbrev stands : Option Element → Bool
+stands (Some (Integer p n)) = true
+stands (Some (Text at l n)) = true
+stands None = false
 
 -- a choice of which each way is known where it stands
-by_each : (t : Bool) (x u y v : Element) → (stands x ≡ true → x ≡ u) → (stands y ≡ true → y ≡ v) → stands (pick t x y) ≡ true → pick t x y ≡ pick t u v
+by_each : (t : Bool) (x u y v : Option Element) → (stands x ≡ true → x ≡ u) → (stands y ≡ true → y ≡ v) → stands (pick t x y) ≡ true → pick t x y ≡ pick t u v
 by_each true x u y v f g = f
 by_each false x u y v f g = g
 
-bad_else : (t : Bool) (x u : Element) → (stands x ≡ true → x ≡ u) → stands (pick t x Bad) ≡ true → pick t x Bad ≡ u
+bad_else : (t : Bool) (x u : Option Element) → (stands x ≡ true → x ≡ u) → stands (pick t x None) ≡ true → pick t x None ≡ u
 bad_else true x u f e = f e
 bad_else false x u f e = absurd (never e refl)
 
-bad_first : (t : Bool) (y v : Element) → (stands y ≡ true → y ≡ v) → stands (pick t Bad y) ≡ true → pick t Bad y ≡ v
+bad_first : (t : Bool) (y v : Option Element) → (stands y ≡ true → y ≡ v) → stands (pick t None y) ≡ true → pick t None y ≡ v
 bad_first true y v f e = absurd (never e refl)
 bad_first false y v f e = f e
 
@@ -86,7 +86,7 @@ two_known : (s : List ℕ) → stands (read_element s) ≡ true → 2 ≤ length
 unfolding read_element
 two_known s = by (ltb (length s) 2) refl
   where
-    by : (t : Bool) → ltb (length s) 2 ≡ t → stands (pick t Bad (read_by (get_or s 0 0) (get_or s 1 0) s)) ≡ true → 2 ≤ length s
+    by : (t : Bool) → ltb (length s) 2 ≡ t → stands (pick t None (read_by (get_or s 0 0) (get_or s 1 0) s)) ≡ true → 2 ≤ length s
     by true q e = absurd (never e refl)
     by false q e = ltb-false (length s) 2 q
 
@@ -99,10 +99,10 @@ module _ (s : List ℕ) (at : ℕ) (k : ElementAt s at) where
   is_there_lem : stands (read_element (drop at s)) ≡ true
   is_there_lem = by (read_element (drop at s)) refl
     where
-      by : (e : Element) → read_element (drop at s) ≡ e → stands e ≡ true
-      by (Integer p n) q = refl
-      by (Text a l n) q = refl
-      by Bad q = absurd (never (ap is_none (parse_by (drop at s) Bad q)) k.there)
+      by : (e : Option Element) → read_element (drop at s) ≡ e → stands e ≡ true
+      by (Some (Integer p n)) q = refl
+      by (Some (Text a l n)) q = refl
+      by None q = absurd (never (ap is_none (parse_by (drop at s) None q)) k.there)
 
   pub two_there : at + 1 < length s
   two_there = omega (arith, two_known (drop at s) is_there_lem, length-drop at s)
@@ -120,23 +120,23 @@ module _ (s : List ℕ) (at : ℕ) (k : ElementAt s at) where
     by_first = loose_there ∙ ap₂ (λ (x y : ℕ). loose_by x y (drop at s)) first_there (get_or-drop at s 1 0)
 
     -- by the first byte, and the second, which is c
-    pub tiny_there : b < 128 → read_element (drop at s) ≡ Integer b 2
+    pub tiny_there : b < 128 → read_element (drop at s) ≡ Some (Integer b 2)
     unfolding loose_by back_length
     tiny_there h = by_first ∙ rw (lt-ltb b 128 h)
 
-    pub text_there : 128 ≤ b → b < 192 → read_element (drop at s) ≡ Text 1 (b - 128) (b - 126)
+    pub text_there : 128 ≤ b → b < 192 → read_element (drop at s) ≡ Some (Text 1 (b - 128) (b - 126))
     unfolding loose_by back_length
     text_there h i =
         let q : 1 + (b - 128) + 1 ≡ b - 126 = omega arith in
-        by_first ∙ rw (le-ltb b 128 h, lt-ltb b 192 i, lt-ltb (1 + (b - 128)) 128 (omega arith)) (ap (Text 1 (b - 128)) q)
+        by_first ∙ rw (le-ltb b 128 h, lt-ltb b 192 i, lt-ltb (1 + (b - 128)) 128 (omega arith)) (ap (λ (i : ℕ). Some (Text 1 (b - 128) i)) q)
 
     module _ (c : ℕ) (second : c ≡ get_or s (at + 1) 0) where
-      pub short_there : 192 ≤ b → b < 224 → read_element (drop at s) ≡ Integer (extend 4096 (256 * (b - 192) + c)) 3
+      pub short_there : 192 ≤ b → b < 224 → read_element (drop at s) ≡ Some (Integer (extend 4096 (256 * (b - 192) + c)) 3)
       unfolding loose_by back_length
       short_there h i = by_first ∙ rw (le-ltb b 128 (omega arith), le-ltb b 192 h, lt-ltb b 224 i, second)
 
       pub long_there : 224 ≤ b → b < 240
-          → read_element (drop at s) ≡ Text 2 (256 * (b - 224) + c) (2 + (256 * (b - 224) + c) + length (back_length (2 + (256 * (b - 224) + c))))
+          → read_element (drop at s) ≡ Some (Text 2 (256 * (b - 224) + c) (2 + (256 * (b - 224) + c) + length (back_length (2 + (256 * (b - 224) + c)))))
       unfolding loose_by
       long_there h i = by_first ∙ rw (le-ltb b 128 (omega arith), le-ltb b 192 (omega arith), le-ltb b 224 h, lt-ltb b 240 i, second)
 
@@ -146,13 +146,13 @@ module _ (s : List ℕ) (at : ℕ) (k : ElementAt s at) where
       tagged = by_first ∙ rw (le-ltb b 128 (omega arith), le-ltb b 192 (omega arith), le-ltb b 224 (omega arith), le-ltb b 240 h)
 
       -- the number in w bytes
-      pub wide_there : (w : ℕ) → tag_width b ≡ w → w ≤ 8 → read_element (drop at s) ≡ Integer (extend (half_of w) (le_value (area (at + 1) w s))) (w + 2)
+      pub wide_there : (w : ℕ) → tag_width b ≡ w → w ≤ 8 → read_element (drop at s) ≡ Some (Integer (extend (half_of w) (le_value (area (at + 1) w s))) (w + 2))
       unfolding back_length
       wide_there w e m =
           let q : 1 + w + 1 ≡ w + 2 = omega arith in
           let l : length (back_length (1 + w)) ≡ 1 = rw (lt-ltb (1 + w) 128 (omega arith)) in
           tagged ∙ ap (λ (x : ℕ). closed_integer (extend (half_of x) (le_value (area 1 x (drop at s)))) (1 + x)) e
-          ∙ ap₂ Integer (ap (λ (x : List ℕ). extend (half_of w) (le_value x)) (area_drop at 1 w s)) (ap (λ (x : ℕ). 1 + w + x) l ∙ q)
+          ∙ ap₂ (λ (i j : ℕ). Some (Integer i j)) (ap (λ (x : List ℕ). extend (half_of w) (le_value x)) (area_drop at 1 w s)) (ap (λ (x : ℕ). 1 + w + x) l ∙ q)
 
       pub tag_there : (b ≡ 241 → ⊥) → (b ≡ 242 → ⊥) → (b ≡ 243 → ⊥) → b ≡ 244
       unfolding read_element read_by
@@ -168,41 +168,41 @@ module _ (s : List ℕ) (at : ℕ) (k : ElementAt s at) where
           by false e = absurd (no_tag (drop at s) (tag_width b) reads (tag_none b x y z (eqb-false b 244 e)))
 
 -- size, pattern and text by what the reader says
-pub size_by : (s : List ℕ) (at : ℕ) (e : Element) → read_element (drop at s) ≡ e → size_of e ≡ size_at s at
+pub size_by : (s : List ℕ) (at : ℕ) (e : Option Element) → read_element (drop at s) ≡ e → size_of e ≡ size_at s at
 unfolding size_at
 size_by s at e q = ap size_of (sym q)
 
-pub pattern_by_lem : (s : List ℕ) (at : ℕ) (e : Element) → read_element (drop at s) ≡ e → pattern_in e ≡ pattern_at s at
+pub pattern_by_lem : (s : List ℕ) (at : ℕ) (e : Option Element) → read_element (drop at s) ≡ e → pattern_in e ≡ pattern_at s at
 unfolding pattern_at
 pattern_by_lem s at e q = ap pattern_in (sym q)
 
-pub text_by : (s : List ℕ) (at : ℕ) (e : Element) → read_element (drop at s) ≡ e → text_in e ≡ text_at s at
+pub text_by : (s : List ℕ) (at : ℕ) (e : Option Element) → read_element (drop at s) ≡ e → text_in e ≡ text_at s at
 unfolding text_at
 text_by s at e q = ap text_in (sym q)
 
-pub start_by : (s : List ℕ) (at : ℕ) (e : Element) → read_element (drop at s) ≡ e → start_in e ≡ start_at s at
+pub start_by : (s : List ℕ) (at : ℕ) (e : Option Element) → read_element (drop at s) ≡ e → start_in e ≡ start_at s at
 unfolding start_at
 start_by s at e q = ap start_in (sym q)
 
-pub sized_integer : (s : List ℕ) (at p n m : ℕ) → read_element (drop at s) ≡ Integer p n → m ≡ size_at s at → Integer p m ≡ read_element (drop at s)
-sized_integer s at p n m q h = ap (Integer p) (h ∙ sym (size_by s at (Integer p n) q)) ∙ sym q
+pub sized_integer : (s : List ℕ) (at p n m : ℕ) → read_element (drop at s) ≡ Some (Integer p n) → m ≡ size_at s at → Some (Integer p m) ≡ read_element (drop at s)
+sized_integer s at p n m q h = ap (λ (i : ℕ). Some (Integer p i)) (h ∙ sym (size_by s at (Some (Integer p n)) q)) ∙ sym q
 
-pub sized_text : (s : List ℕ) (at a l n m : ℕ) → read_element (drop at s) ≡ Text a l n → m ≡ size_at s at → Text a l m ≡ read_element (drop at s)
-sized_text s at a l n m q h = ap (Text a l) (h ∙ sym (size_by s at (Text a l n) q)) ∙ sym q
+pub sized_text : (s : List ℕ) (at a l n m : ℕ) → read_element (drop at s) ≡ Some (Text a l n) → m ≡ size_at s at → Some (Text a l m) ≡ read_element (drop at s)
+sized_text s at a l n m q h = ap (λ (i : ℕ). Some (Text a l i)) (h ∙ sym (size_by s at (Some (Text a l n)) q)) ∙ sym q
 
 -- an integer whose pattern and size are known
-pub integer_there : (s : List ℕ) (at p n q m : ℕ) → read_element (drop at s) ≡ Integer p n → q ≡ pattern_at s at → m ≡ size_at s at → Integer q m ≡ read_element (drop at s)
-integer_there s at p n q m e f g = ap₂ Integer (f ∙ sym (pattern_by_lem s at (Integer p n) e)) (g ∙ sym (size_by s at (Integer p n) e)) ∙ sym e
+pub integer_there : (s : List ℕ) (at p n q m : ℕ) → read_element (drop at s) ≡ Some (Integer p n) → q ≡ pattern_at s at → m ≡ size_at s at → Some (Integer q m) ≡ read_element (drop at s)
+integer_there s at p n q m e f g = ap₂ (λ (i j : ℕ). Some (Integer i j)) (f ∙ sym (pattern_by_lem s at (Some (Integer p n)) e)) (g ∙ sym (size_by s at (Some (Integer p n)) e)) ∙ sym e
 
 -- the size of an integer of three bytes or more, by its tag; of those the last has eight
 module _ (s : List ℕ) (at : ℕ) (k : ElementAt s at) (b : ℕ) (first : b ≡ get_or s at 0) (h : 240 ≤ b) where
-  pub wide_8 : (b ≡ 241 → ⊥) → (b ≡ 242 → ⊥) → (b ≡ 243 → ⊥) → read_element (drop at s) ≡ Integer (extend (half_of 8) (le_value (area (at + 1) 8 s))) 10
+  pub wide_8 : (b ≡ 241 → ⊥) → (b ≡ 242 → ⊥) → (b ≡ 243 → ⊥) → read_element (drop at s) ≡ Some (Integer (extend (half_of 8) (le_value (area (at + 1) 8 s))) 10)
   wide_8 x y z = wide_there s at k b first h 8 (tag_64 b x y z (tag_there s at k b first h x y z)) (omega arith)
 
   pub last_tag : 244 ≤ b → 10 ≡ size_at s at
   last_tag l = size_by s at _ (wide_8 (λ e. omega arith) (λ e. omega arith) (λ e. omega arith))
 
-  pub tagged_there : (q m : ℕ) → q ≡ pattern_at s at → m ≡ size_at s at → Integer q m ≡ read_element (drop at s)
+  pub tagged_there : (q m : ℕ) → q ≡ pattern_at s at → m ≡ size_at s at → Some (Integer q m) ≡ read_element (drop at s)
   tagged_there q m f g = integer_there s at _ _ q m (tagged s at k b first h) f g
 
   by_tag : (w : ℕ) → tag_width b ≡ w → w ≤ 8 → w + 2 ≡ size_at s at
@@ -231,18 +231,18 @@ module _ (s : List ℕ) (at : ℕ) (b : Bytes s) (k : ElementAt s at) where
   unfolding size_at
   size_there = omega (arith, size_within (drop at s) (bytes_drop at b), length-drop at s, two_there s at k)
 
-  module _ (e : Element) (q : e ≡ read_element (drop at s)) where
-    pub integer_string : (p n : ℕ) → e ≡ Integer p n → string_at s at ≡ text_of p
+  module _ (e : Option Element) (q : e ≡ read_element (drop at s)) where
+    pub integer_string : (p n : ℕ) → e ≡ Some (Integer p n) → string_at s at ≡ text_of p
     unfolding string_at
-    integer_string p n f = ap string_by (parse_by (drop at s) (Integer p n) (sym q ∙ f))
+    integer_string p n f = ap string_by (parse_by (drop at s) (Some (Integer p n)) (sym q ∙ f))
 
-    module _ (a l n : ℕ) (f : e ≡ Text a l n) where
-      text_sound : Sound (drop at s) (Text a l n)
+    module _ (a l n : ℕ) (f : e ≡ Some (Text a l n)) where
+      text_sound : Sound (drop at s) (Some (Text a l n))
       text_sound = subst (Sound (drop at s)) (sym q ∙ f) (sound (drop at s) (bytes_drop at b))
 
       pub text_string : string_at s at ≡ area a l (drop at s)
       unfolding string_at
-      text_string = ap string_by (parse_by (drop at s) (Text a l n) (sym q ∙ f))
+      text_string = ap string_by (parse_by (drop at s) (Some (Text a l n)) (sym q ∙ f))
 
       pub text_within : at + a + l ≤ length s
       text_within =
@@ -260,7 +260,7 @@ module _ (s : List ℕ) (at : ℕ) (b : Bytes s) (k : ElementAt s at) where
           let i : at + a + l - (at + a) ≡ l = omega arith in
           ap₂ (λ (j : ℕ) (t : List ℕ). take j t) i (sym (drop-drop a at s)) ∙ sym text_string
 
-    pub no_bad : e ≡ Bad → ⊥
+    pub no_bad : e ≡ None → ⊥
     no_bad f = never (is_there_lem s at k) (ap stands (sym q ∙ f))
 
   -- by the length of a text, plus 1: an integer, or a text
@@ -268,24 +268,24 @@ module _ (s : List ℕ) (at : ℕ) (b : Bytes s) (k : ElementAt s at) where
   unfolding text_at pattern_at
   number_there z = by (read_element (drop at s)) refl z
     where
-      by : (e : Element) → e ≡ read_element (drop at s) → text_in e ≡ 0 → string_at s at ≡ text_of (pattern_in e)
-      by (Integer p n) q z = integer_string (Integer p n) q p n refl
-      by (Text a l n) q z = absurd (omega arith)
-      by Bad q z = absurd (no_bad Bad q refl)
+      by : (e : Option Element) → e ≡ read_element (drop at s) → text_in e ≡ 0 → string_at s at ≡ text_of (pattern_in e)
+      by (Some (Integer p n)) q z = integer_string (Some (Integer p n)) q p n refl
+      by (Some (Text a l n)) q z = absurd (omega arith)
+      by None q z = absurd (no_bad None q refl)
 
   pub string_there : (l : ℕ) → text_at s at ≡ l + 1
       → (l ≡ length (string_at s at)) × (l < 4096) × (at + start_at s at + l ≤ length s) × (area (at + start_at s at) l s ≡ string_at s at)
   unfolding text_at start_at
   string_there l z = by (read_element (drop at s)) refl z
     where
-      by : (e : Element) → e ≡ read_element (drop at s) → text_in e ≡ l + 1
+      by : (e : Option Element) → e ≡ read_element (drop at s) → text_in e ≡ l + 1
           → (l ≡ length (string_at s at)) × (l < 4096) × (at + start_in e + l ≤ length s) × (area (at + start_in e) l s ≡ string_at s at)
-      by (Integer p n) q z = absurd (omega arith)
-      by (Text a m n) q z =
+      by (Some (Integer p n)) q z = absurd (omega arith)
+      by (Some (Text a m n)) q z =
           let i : m ≡ l = omega arith in
-          let k = text_length_is (Text a m n) q a m n refl in
-          (omega (arith, k.0), omega (arith, k.1), omega (arith, text_within (Text a m n) q a m n refl), ap (λ (x : ℕ). area (at + a) x s) (sym i) ∙ sym (area_drop at a m s) ∙ sym (text_string (Text a m n) q a m n refl))
-      by Bad q z = absurd (no_bad Bad q refl)
+          let k = text_length_is (Some (Text a m n)) q a m n refl in
+          (omega (arith, k.0), omega (arith, k.1), omega (arith, text_within (Some (Text a m n)) q a m n refl), ap (λ (x : ℕ). area (at + a) x s) (sym i) ∙ sym (area_drop at a m s) ∙ sym (text_string (Some (Text a m n)) q a m n refl))
+      by None q z = absurd (no_bad None q refl)
 
 -- the bytes of an integer of three bytes or more are there
 module _ (s : List ℕ) (at : ℕ) (y : Bytes s) (k : ElementAt s at) (b : ℕ) (first : b ≡ get_or s at 0) (h : 240 ≤ b) where

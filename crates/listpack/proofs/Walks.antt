@@ -1,7 +1,7 @@
 -- The walk over elements: what a cursor passes, and the end byte. Assumes nothing.
 use mathlib.Core.Path.{◌≡◌, refl, ap}
 use mathlib.Core.List.{List, [], ◌∷◌}
-use mathlib.Core.Option.{some, none}
+use Rattle.std.proofs.Common.{Some, None, Option}
 use mathlib.Core.Bool.{false}
 use Prim.Native.Nat.{ℕ, suc, ◌+◌, ◌-◌, ◌≤◌, ◌<◌}
 use native.Mathlib.Omega.{arith}
@@ -15,52 +15,52 @@ use Rattle.octets.proofs.Laws.{same_length, bytes_drop}
 use Rattle.decimal.specs.Text.{text_of}
 use Rattle.listpack.specs.Read.{parsed_by, parse, read_element}
 use Rattle.listpack.specs.AtPlace.{size_of}
-use Rattle.listpack.specs.declared.Element.{Element}
-use Rattle.listpack.specs.declared.Element.TheVariants.{Integer, Text, Bad}
 use Rattle.listpack.specs.declared.cursor.Cursor.{Cursor}
 use Rattle.listpack.proofs.Sound.{Sound, sound}
 use Rattle.listpack.proofs.Leaves.{pick_self}
 use Rattle.listpack.proofs.Strings.{parse_by}
 use Rattle.listpack.proofs.Sizes.{integer_bounds}
+use Rattle.listpack.specs.declared.Element.{Element}
+use Rattle.listpack.specs.declared.Element.TheVariants.{Integer, Text}
 
 -- an element lies within the bytes
 pub size_within : (s : List ℕ) → Bytes s → size_of (read_element s) ≤ length s
 size_within s b = by (read_element s) (sound s b)
   where
-    by : (e : Element) → Sound s e → size_of e ≤ length s
-    by (Integer p n) k = k.starts.within
-    by (Text at l n) k = k.starts.within
-    by Bad k = omega arith
+    by : (e : Option Element) → Sound s e → size_of e ≤ length s
+    by (Some (Integer p n)) k = k.starts.within
+    by (Some (Text at l n)) k = k.starts.within
+    by None k = omega arith
 
 -- an element that takes no bytes is none, and any other is parsed
 record Found (s : List ℕ) (n : ℕ) : Type 0 where
   string : List ℕ
-  is : parse s ≡ some (record { string = string; size = n })
+  is : parse s ≡ Some (record { string = string; size = n })
 
-found : (s : List ℕ) (e : Element) → read_element s ≡ e → (size_of e ≡ 0 → ⊥) → Found s (size_of e)
-found s (Integer p n) f h = record { string = text_of p; is = parse_by s _ f }
-found s (Text at l n) f h = record { string = area at l s; is = parse_by s _ f }
-found s Bad f h = absurd (h refl)
+found : (s : List ℕ) (e : Option Element) → read_element s ≡ e → (size_of e ≡ 0 → ⊥) → Found s (size_of e)
+found s (Some (Integer p n)) f h = record { string = text_of p; is = parse_by s _ f }
+found s (Some (Text at l n)) f h = record { string = area at l s; is = parse_by s _ f }
+found s None f h = absurd (h refl)
 
-pub found_none : (s : List ℕ) → Bytes s → size_of (read_element s) ≡ 0 → parse s ≡ none
+pub found_none : (s : List ℕ) → Bytes s → size_of (read_element s) ≡ 0 → parse s ≡ None
 unfolding parse
 found_none s b = by (read_element s) (sound s b)
   where
-    by : (e : Element) → Sound s e → size_of e ≡ 0 → parsed_by s e ≡ none
-    by (Integer p n) k h = absurd (omega (arith, k.starts.size, integer_bounds p))
-    by (Text at l n) k h = absurd (omega (arith, k.inside))
-    by Bad k h = refl
+    by : (e : Option Element) → Sound s e → size_of e ≡ 0 → parsed_by s e ≡ None
+    by (Some (Integer p n)) k h = absurd (omega (arith, k.starts.size, integer_bounds p))
+    by (Some (Text at l n)) k h = absurd (omega (arith, k.inside))
+    by None k h = refl
 
 -- the element e where a cursor stands, and the cursor after it
-pub record Passed (s : List ℕ) (c : Cursor) (e : Element) (next : Cursor) : Type 0 where
+pub record Passed (s : List ℕ) (c : Cursor) (e : Option Element) (next : Cursor) : Type 0 where
   pub string : List ℕ
-  pub parsed : parse (drop c.at s) ≡ some (record { string = string; size = size_of e })
+  pub parsed : parse (drop c.at s) ≡ Some (record { string = string; size = size_of e })
   pub read : read_element (drop c.at s) ≡ e
   pub next_at : next.at ≡ c.at + size_of e
   pub next_left : c.left ≡ suc next.left
   pub within : next.at ≤ length s
 
-pub passed : (s : List ℕ) (c : Cursor) → Bytes s → (c.left ≡ 0 → ⊥) → (e : Element) → read_element (drop c.at s) ≡ e → (size_of e ≡ 0 → ⊥)
+pub passed : (s : List ℕ) (c : Cursor) → Bytes s → (c.left ≡ 0 → ⊥) → (e : Option Element) → read_element (drop c.at s) ≡ e → (size_of e ≡ 0 → ⊥)
     → Passed s c e (record { at = c.at + size_of e; left = c.left - 1 })
 passed s c b more e f h =
     let t : List ℕ = drop c.at s in

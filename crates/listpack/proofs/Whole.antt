@@ -1,7 +1,8 @@
 -- A whole listpack: parse_listpack and listpack are inverse. Assumes nothing.
 use mathlib.Core.Path.{◌≡◌, refl, sym, ap, ap₂, ◌∙◌, subst}
 use mathlib.Core.List.{List, [], ◌∷◌, ◌++◌, append_assoc}
-use mathlib.Core.Option.{some, some-injective}
+use Rattle.std.proofs.Common.{Some}
+use Rattle.octets.proofs.Options.{some_injective}
 use Prim.Native.Nat.{ℕ, ◌+◌, ◌^◌, ◌≤◌, ◌<◌}
 use native.Mathlib.Omega.{arith}
 use lib.Dec.{leb}
@@ -52,7 +53,7 @@ unfolding listpack
 length_listpack xs =
     omega (arith, length-append (header (7 + length (elements xs)) (length xs)) (elements xs ++ (255 ∷ [])), header_length (7 + length (elements xs)) (length xs) [], length-append (elements xs) (255 ∷ []))
 
-pub whole_accepts : (xs : List (List ℕ)) → Each Short xs → length xs < 2 ^ 16 → length (listpack xs) < 2 ^ 32 → parse_listpack (listpack xs) ≡ some xs
+pub whole_accepts : (xs : List (List ℕ)) → Each Short xs → length xs < 2 ^ 16 → length (listpack xs) < 2 ^ 32 → parse_listpack (listpack xs) ≡ Some xs
 unfolding parse_listpack listpack
 whole_accepts xs h count total =
     let n : ℕ = 7 + length (elements xs) in
@@ -90,13 +91,13 @@ as_listpack s w b seven total k rest =
       string_bytes = k.string_bytes;
     }
 
-pub whole_exact : (s : List ℕ) (xs : List (List ℕ)) → Bytes s → parse_listpack s ≡ some xs → WholeExact s xs
+pub whole_exact : (s : List ℕ) (xs : List (List ℕ)) → Bytes s → parse_listpack s ≡ Some xs → WholeExact s xs
 unfolding parse_listpack
 whole_exact s xs b e =
     let h = needed _ _ xs e in
     let two = both_true (leb 7 (length s)) _ h.0 in
     let p = bound (parse_many (le_value (area 4 2 s)) (drop 6 s)) _ xs h.1 in
     let w : Walked = p.value in
-    let n = needed (same w.rest (255 ∷ [])) (some w.strings) xs p.goes_on in
-    subst (WholeExact s) (some-injective _ _ n.1)
+    let n = needed (same w.rest (255 ∷ [])) (Some w.strings) xs p.goes_on in
+    subst (WholeExact s) (some_injective _ _ n.1)
     (as_listpack s w b (leb-true _ _ two.0) (eqb-true _ _ two.1) (many_exact (le_value (area 4 2 s)) (drop 6 s) w (bytes_drop 6 b) p.is) (same_true _ _ n.0))

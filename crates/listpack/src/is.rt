@@ -4,15 +4,13 @@ ghost use Rattle.std.specs.Prelude.{◌≡◌};
 ghost use Rattle.octets.specs.Compare.{same};
 ghost use Rattle.decimal.specs.Text.{text_of};
 
-use decimal::Recognised;
-
 // The string is the integer's text.
 pub fn integer_is(p: u64, x: &[u8]) -> bool
     ensures { result ≡ same (text_of p) x.now }
 {
     let found = decimal::recognise(x);
     match found {
-        Recognised::Integer(q) => q == p,
-        Recognised::Other => false,
+        Some(q) => q == p,
+        None => false,
     }
 }

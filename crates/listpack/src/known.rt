@@ -1,6 +1,6 @@
 // Elements that are known to be there, in bytes that were judged: by their first bytes alone, without the tests of the strict reader.
 
-ghost use Rattle.std.specs.Prelude.{◌≡◌, ◌≤◌, ◌<◌, length, get_or, drop};
+ghost use Rattle.std.specs.Prelude.{Some, ◌≡◌, ◌≤◌, ◌<◌, length, get_or, drop};
 ghost use Rattle.octets.specs.Compare.{same};
 ghost use Rattle.listpack.specs.Read.{read_element};
 ghost use Rattle.listpack.specs.Known.{ElementAt, ElementsAt, string_at, size_at, pattern_at, small_at, is_end, end_at, text_at, start_at};
@@ -102,15 +102,14 @@ pub fn known_end(s: &[u8], at: usize, n: usize) -> usize
     ensures { result ≡ end_at n s.now at }
 {
     let mut to = at;
-    let mut k = n;
-    while 0 < k {
+    for k in 0..n {
         to += known_size(s, to);
-        k -= 1;
     }
     to
 }
 
-// The length of the text there, plus 1; 0 where an integer stands. In one number, where `known_element` answers through memory.
+// The length of the text there, plus 1; 0 where an integer stands. In one number, where an Option or `known_element` answers
+// through memory.
 pub fn known_text(s: &[u8], at: usize) -> usize
     requires { ElementAt s.now at }
     ensures { result ≡ text_at s.now at }
@@ -155,7 +154,7 @@ pub fn known_start(s: &[u8], at: usize) -> usize
 // The element there.
 pub fn known_element(s: &[u8], at: usize) -> Element
     requires { ElementAt s.now at }
-    ensures { result ≡ read_element (drop at s.now) }
+    ensures { Some result ≡ read_element (drop at s.now) }
 {
     let size = known_size(s, at);
     let b = octets::wide(s[at]);
@@ -203,7 +202,6 @@ pub fn known_is(s: &[u8], at: usize, x: &[u8]) -> bool
             let end = from + len;
             octets::equal(&s[from..end], x)
         }
-        Element::Bad => false,
     }
 }
 

@@ -20,7 +20,7 @@ pub use known::{
     known_start, known_text, same_element,
 };
 pub use size::{element_size, integer_size};
-pub use strict::{Leading, is_small, read_number, strings_end};
+pub use strict::{Numeral, is_small, read_number, strings_end};
 pub use value::{Number, known_number, known_stored};
 pub use write::{put_end, write_integer, write_string};
 
@@ -36,5 +36,4 @@ pub enum Element {
         len: usize,
         size: usize,
     },
-    Bad,
 }

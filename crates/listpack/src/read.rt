@@ -1,16 +1,14 @@
 // The strict reader of one element.
 
-ghost use Rattle.std.specs.Prelude.{◌≡◌, ◌≤◌, ◌<◌, length, get_or};
+ghost use Rattle.std.specs.Prelude.{◌≡◌, ◌≤◌, ◌<◌, length, get_or, is_none};
 ghost use Rattle.octets.specs.Bytes.{le_value};
 ghost use Rattle.octets.specs.Place.{area};
-ghost use Rattle.octets.specs.Maybe.{is_none};
 ghost use Rattle.decimal.specs.Integer.{pattern_of};
 ghost use Rattle.listpack.specs.Width.{extend, half_of};
 ghost use Rattle.listpack.specs.Read.{back_at, integer_stands, as_integer, text_stands, as_text, tag_width, read_wide, read_element};
 
 use crate::Element;
 use crate::form::{HALF_SHORT, back_size, body_size, extend, half_of, head_size};
-use decimal::Recognised;
 
 // The back length of n stands at n.
 fn back_at(n: usize, s: &[u8]) -> bool
@@ -44,17 +42,17 @@ pub fn integer_stands(s: &[u8], p: u64, n: usize) -> bool
 }
 
 // Where the element is made, apart from the tests, so that the compiler keeps it in registers.
-fn as_integer(p: u64, n: usize, stands: bool) -> Element
+fn as_integer(p: u64, n: usize, stands: bool) -> Option<Element>
     requires { n ≤ 9 }
     ensures { result ≡ as_integer p n stands }
 {
     if stands {
-        return Element::Integer {
+        return Some(Element::Integer {
             pattern: p,
             size: n + back_size(n),
-        };
+        });
     }
-    Element::Bad
+    None
 }
 
 // The string is no integer.
@@ -63,8 +61,8 @@ pub fn is_text(s: &[u8]) -> bool
 {
     let found = decimal::recognise(s);
     match found {
-        Recognised::Integer(_) => false,
-        Recognised::Other => true,
+        Some(_) => false,
+        None => true,
     }
 }
 
@@ -84,19 +82,19 @@ pub fn text_stands(s: &[u8], at: usize, l: usize) -> bool
 }
 
 // The text as an element, likewise.
-fn as_text(at: usize, l: usize, stands: bool) -> Element
+fn as_text(at: usize, l: usize, stands: bool) -> Option<Element>
     requires { (at ≤ 2) × (l < 4096) }
     ensures { result ≡ as_text at l stands }
 {
     if stands {
         let n = at + l;
-        return Element::Text {
+        return Some(Element::Text {
             start: at,
             len: l,
             size: n + back_size(n),
-        };
+        });
     }
-    Element::Bad
+    None
 }
 
 // The number in the w bytes after the first.
@@ -108,22 +106,22 @@ pub fn wide_value(s: &[u8], w: usize) -> u64
 }
 
 // A number of w bytes; none where w is 0.
-fn read_wide(s: &[u8], w: usize) -> Element
+fn read_wide(s: &[u8], w: usize) -> Option<Element>
     requires { w ≤ 8 }
     ensures { result ≡ read_wide w s.now }
 {
     if w == 0 {
-        return Element::Bad;
+        return None;
     }
     if s.len() <= w {
-        return Element::Bad;
+        return None;
     }
     let v = wide_value(s, w);
     as_integer(v, 1 + w, integer_stands(s, v, 1 + w))
 }
 
 // F1 to F4; no other byte from 240 on has a form. Each width stands there as a number, so that its loop is unrolled.
-fn read_tagged(s: &[u8], b: u64) -> Element
+fn read_tagged(s: &[u8], b: u64) -> Option<Element>
     ensures { result ≡ read_wide (tag_width b) s.now }
 {
     if b == 241 {
@@ -138,11 +136,11 @@ fn read_tagged(s: &[u8], b: u64) -> Element
     if b == 244 {
         return read_wide(s, 8);
     }
-    Element::Bad
+    None
 }
 
 // An element whose first byte is 128 or above.
-fn read_longer(s: &[u8], b: u64) -> Element
+fn read_longer(s: &[u8], b: u64) -> Option<Element>
     requires { (2 ≤ length s.now) × (b ≡ get_or s.now 0 0) × (128 ≤ b) × (b < 256) }
     ensures { result ≡ read_element s.now }
 {
@@ -163,11 +161,11 @@ fn read_longer(s: &[u8], b: u64) -> Element
 }
 
 // The element at the start of s, by its first byte. Small, so that the compiler puts it where it is called.
-pub fn read_element(s: &[u8]) -> Element
+pub fn read_element(s: &[u8]) -> Option<Element>
     ensures { result ≡ read_element s.now }
 {
     if s.len() < 2 {
-        return Element::Bad;
+        return None;
     }
     let b = octets::wide(s[0]);
     if b < 128 {

@@ -4,7 +4,6 @@ ghost use Rattle.std.specs.Prelude.{◌≡◌, ◌<◌, length};
 ghost use Rattle.listpack.specs.Element.{integer, encode_item, element_size, text_size};
 
 use crate::form::{back_size, body_size, head_size};
-use decimal::Recognised;
 
 pub fn integer_size(p: u64) -> usize
     ensures { result ≡ length (encode_item (integer p)) }
@@ -21,7 +20,7 @@ fn text_size(l: usize) -> usize
     n + back_size(n)
 }
 
-// 0 for a string that is too long to have an element.
+// 0 for a string that is too long to have an element. Every caller's is short, so that each would open an Option that is never None.
 pub fn element_size(s: &[u8]) -> usize
     ensures { result ≡ element_size s.now }
 {
@@ -30,7 +29,7 @@ pub fn element_size(s: &[u8]) -> usize
     }
     let found = decimal::recognise(s);
     match found {
-        Recognised::Integer(p) => integer_size(p),
-        Recognised::Other => text_size(s.len()),
+        Some(p) => integer_size(p),
+        None => text_size(s.len()),
     }
 }

@@ -11,12 +11,12 @@ use crate::read::{integer_stands, is_text, text_stands, wide_value};
 
 // A number at the start of a part, and how many bytes its element takes.
 #[derive(Clone, Copy)]
-pub enum Leading {
-    Numeral { pattern: u64, size: usize },
-    NoNumeral,
+pub struct Numeral {
+    pub pattern: u64,
+    pub size: usize,
 }
 
-// A number of w bytes.
+// A number of w bytes. Here and below 0 says that there is none: an Option of a function that is called goes through memory (DECISIONS, 34).
 fn wide_integer(t: &[u8], w: usize) -> u64
     requires { (1 ≤ w) × (w ≤ 8) }
     ensures { result ≡ pattern_in (read_wide w t.now) }
@@ -95,30 +95,30 @@ fn long_size(b: u64) -> usize
 }
 
 // The number that a part begins with.
-pub fn read_number(t: &[u8]) -> Leading
+pub fn read_number(t: &[u8]) -> Option<Numeral>
     ensures { result ≡ leading_of (read_element t.now) }
 {
     if t.len() < 2 {
-        return Leading::NoNumeral;
+        return None;
     }
     let b = octets::wide(t[0]);
     if b < 128 {
         if t[1] != 1 {
-            return Leading::NoNumeral;
+            return None;
         }
-        return Leading::Numeral {
+        return Some(Numeral {
             pattern: b,
             size: 2,
-        };
+        });
     }
     let p = long_integer(t, b);
     if p == 0 {
-        return Leading::NoNumeral;
+        return None;
     }
-    Leading::Numeral {
+    Some(Numeral {
         pattern: p,
         size: long_size(b),
-    }
+    })
 }
 
 // A part begins with this integer of 7 bits.
@@ -209,7 +209,8 @@ fn string_size(t: &[u8]) -> usize
     long_string_size(t, b)
 }
 
-// The place after n strings, and 0 where one of them is none. Two walks call it, so it stands by itself, with its place in a register.
+// The place after n strings, and 0 where one of them is none. Two walks call it, so it stands by itself, and answers in a number: an
+// Option of a called function goes through memory. A `for` over the count takes three instructions more for each string.
 pub fn strings_end(s: &[u8], from: usize, n: usize) -> usize
     requires { from ≤ length s.now }
     ensures { result ≡ end_after n s.now from }

@@ -1,11 +1,10 @@
 // What an element that is known to be there stands for: whether its string is an integer, without a copy.
 
 ghost use Rattle.std.specs.Prelude.{◌≡◌};
-ghost use Rattle.decimal.specs.Integer.{pattern_of, recognised_by};
+ghost use Rattle.decimal.specs.Integer.{pattern_of};
 ghost use Rattle.listpack.specs.Known.{ElementAt, string_at, number_at};
 
 use crate::known::{known_integer, known_size};
-use decimal::Recognised;
 
 // An integer's pattern, and the place after it.
 #[derive(Clone, Copy)]
@@ -15,26 +14,26 @@ pub struct Number {
 }
 
 // The integer that is stored there, or that a text is.
-pub fn known_stored(s: &[u8], at: usize) -> Recognised
+pub fn known_stored(s: &[u8], at: usize) -> Option<u64>
     requires { ElementAt s.now at }
-    ensures { result ≡ recognised_by (pattern_of (string_at s.now at)) }
+    ensures { result ≡ pattern_of (string_at s.now at) }
 {
     let b = octets::wide(s[at]);
     if b < 128 {
-        return Recognised::Integer(b);
+        return Some(b);
     }
     if b < 192 {
-        return Recognised::Other;
+        return None;
     }
     if b < 224 {
         let p = known_integer(s, at);
-        return Recognised::Integer(p);
+        return Some(p);
     }
     if b < 240 {
-        return Recognised::Other;
+        return None;
     }
     let p = known_integer(s, at);
-    Recognised::Integer(p)
+    Some(p)
 }
 
 // The integer there. Most are of 7 bits.

@@ -6,7 +6,6 @@ ghost use Rattle.listpack.specs.Listpack.{end_byte};
 ghost use Rattle.listpack.specs.Element.{IsWide, integer, text, integer_body, text_head, back_length, encode_item, element};
 
 use crate::form::{HALF_SHORT, Wide, fits, narrow, wide_form};
-use decimal::Recognised;
 
 fn put_one(d: &mut [u8], at: usize, a: u64)
     requires { (a < 256) × (at < length d.old) }
@@ -127,7 +126,7 @@ pub fn write_string(d: &mut [u8], at: usize, s: &[u8]) -> usize
 {
     let found = decimal::recognise(s);
     match found {
-        Recognised::Integer(p) => write_integer(d, at, p),
-        Recognised::Other => write_text(d, at, s),
+        Some(p) => write_integer(d, at, p),
+        None => write_text(d, at, s),
     }
 }

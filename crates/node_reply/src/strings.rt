@@ -37,11 +37,9 @@ pub fn strings_size(s: &[u8], at: usize, n: usize) -> usize
 {
     let mut size = 0;
     let mut to = at;
-    let mut left = n;
-    while 0 < left {
+    for _ in 0..n {
         size += bulk_size(string_len(s, to));
-        to = to + listpack::known_size(s, to);
-        left -= 1;
+        to += listpack::known_size(s, to);
     }
     size
 }

@@ -18,15 +18,13 @@ fn find_name(s: &[u8], at: usize, n: usize, name: &[u8]) -> usize
     ensures { result ≡ index_of name.now (strings_at n s.now at) }
 {
     let mut to = at;
-    let mut k = 0;
-    while k < n {
+    for k in 0..n {
         if listpack::known_is(s, to, name) {
             return k;
         }
         to += listpack::known_size(s, to);
-        k += 1;
     }
-    k
+    n
 }
 
 pub fn ask(s: &[u8], names: usize, fields: usize, name: &[u8]) -> Asked

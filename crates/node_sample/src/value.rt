@@ -1,12 +1,9 @@
 // A value, as it counts in a report. An integer i stands as i + 1,000,000,000, so that those that count are natural numbers in their order.
 
-ghost use Rattle.std.specs.Prelude.{◌≡◌};
-ghost use Rattle.std.proofs.Math.Option.{some};
+ghost use Rattle.std.specs.Prelude.{◌≡◌, Some};
 ghost use Rattle.decimal.specs.Integer.{pattern_of};
 ghost use Rattle.listpack.specs.Known.{ElementAt, string_at};
 ghost use Rattle.node_sample.specs.Sample.{sample_of};
-
-use decimal::Recognised;
 
 // Integers from -BOUND to BOUND count.
 pub const BOUND: u64 = 1_000_000_000;
@@ -21,7 +18,7 @@ pub enum Sample {
 
 // The sample of the integer with a pattern.
 fn sample_of(p: u64) -> Sample
-    ensures { result ≡ sample_of (some p) }
+    ensures { result ≡ sample_of (Some p) }
 {
     let n = std::num::wrapping_add_u64(p, BOUND);
     if 2 * BOUND < n {
@@ -36,7 +33,7 @@ pub fn sample_at(s: &[u8], at: usize) -> Sample
     ensures { result ≡ sample_of (pattern_of (string_at s.now at)) }
 {
     match listpack::known_stored(s, at) {
-        Recognised::Integer(p) => sample_of(p),
-        Recognised::Other => Sample::Other,
+        Some(p) => sample_of(p),
+        None => Sample::Other,
     }
 }

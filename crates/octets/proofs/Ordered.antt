@@ -9,32 +9,32 @@ use borrow.Author.Tests.{lt-ltb, le-ltb, ltb-true, ltb-false}
 use Rattle.octets.specs.Pick.{pick}
 use Rattle.octets.specs.Bytes.{be}
 use Rattle.octets.specs.Compare.{order_of, same, is_less, comes_before, is_equal}
-use Rattle.octets.specs.declared.Order.{Order}
-use Rattle.octets.specs.declared.Order.TheVariants.{Less, Equal, Greater}
+use Rattle.std.specs.declared.cmp.Ordering.{Ordering}
+use Rattle.std.specs.declared.cmp.Ordering.TheVariants.{Less, Equal, Greater}
 use Rattle.octets.proofs.Digits.{pow_byte}
 use Rattle.octets.proofs.Tested.{never, same_true}
 
 -- the order of the two the other way round
-abbrev pub mirror : Order → Order
+abbrev pub mirror : Ordering → Ordering
 mirror Less = Greater
 mirror Equal = Equal
 mirror Greater = Less
 
 -- the order of two numbers, and of what follows where they are equal
-abbrev pub first : ℕ → ℕ → Order → Order
+abbrev pub first : ℕ → ℕ → Ordering → Ordering
 first x y o = pick (ltb x y) Less (pick (ltb y x) Greater o)
 
-pub is_less_lem : (o : Order) → is_less o ≡ true → o ≡ Less
+pub is_less_lem : (o : Ordering) → is_less o ≡ true → o ≡ Less
 is_less_lem Less e = refl
 is_less_lem Equal e = absurd (let z : ◌≡◌ {A = ℕ} 0 1 = cc in omega arith)
 is_less_lem Greater e = absurd (let z : ◌≡◌ {A = ℕ} 0 1 = cc in omega arith)
 
-pub is_equal_lem : (o : Order) → is_equal o ≡ true → o ≡ Equal
+pub is_equal_lem : (o : Ordering) → is_equal o ≡ true → o ≡ Equal
 is_equal_lem Less e = absurd (let z : ◌≡◌ {A = ℕ} 0 1 = cc in omega arith)
 is_equal_lem Equal e = refl
 is_equal_lem Greater e = absurd (let z : ◌≡◌ {A = ℕ} 0 1 = cc in omega arith)
 
-module _ (x y : ℕ) (o : Order) where
+module _ (x y : ℕ) (o : Ordering) where
   pub first_less : x < y → first x y o ≡ Less
   first_less h = simp lt-ltb
 
@@ -82,7 +82,7 @@ order_equal (x ∷ a) (y ∷ b) e =
     (λ h. ap₂ (λ (z : ℕ) (l : List ℕ). z ∷ l) h (order_equal a b (sym (first_equal x y (order_of a b) h) ∙ e)))
 
 -- where a first is not after the second
-less_not : (x y : ℕ) (o : Order) → first x y o ≡ Less → y < x → ⊥
+less_not : (x y : ℕ) (o : Ordering) → first x y o ≡ Less → y < x → ⊥
 less_not x y o e h = let z : ◌≡◌ {A = ℕ} 0 1 = cc (first_greater x y o h) in omega arith
 
 pub order_trans : (a b c : List ℕ) → order_of a b ≡ Less → order_of b c ≡ Less → order_of a c ≡ Less
@@ -105,9 +105,9 @@ order_trans (x ∷ a) (y ∷ b) (z ∷ c) p q =
     (λ k. first_equal x z (order_of a c) (h ∙ k) ∙ order_trans a b c (sym (first_equal x y (order_of a b) h) ∙ p) (sym (first_equal y z (order_of b c) k) ∙ q)))
 
 -- a number is ordered by its higher digits, then its lowest
-first_digits : (a b : ℕ) (o : Order) → first (a / 256) (b / 256) (first (a % 256) (b % 256) o) ≡ first a b o
+first_digits : (a b : ℕ) (o : Ordering) → first (a / 256) (b / 256) (first (a % 256) (b % 256) o) ≡ first a b o
 first_digits a b o =
-    let r : Order = first (a % 256) (b % 256) o in
+    let r : Ordering = first (a % 256) (b % 256) o in
     by_order (a / 256) (b / 256)
     (λ h. first_less (a / 256) (b / 256) r h ∙ sym (first_less a b o (omega arith)))
     (λ h. first_greater (a / 256) (b / 256) r h ∙ sym (first_greater a b o (omega arith)))
@@ -123,7 +123,7 @@ pub order_be : (w a b : ℕ) (xs ys : List ℕ) → a < 2 ^ (8 * w) → b < 2 ^ 
 unfolding be order_of
 order_be zero a b xs ys h k = sym (first_equal a b (order_of xs ys) (omega arith))
 order_be (suc w) a b xs ys h k =
-    let o : Order = order_of xs ys in
+    let o : Ordering = order_of xs ys in
     let p : a / 256 < 2 ^ (8 * w) = omega (arith, pow_byte w) in
     let q : b / 256 < 2 ^ (8 * w) = omega (arith, pow_byte w) in
     ap₂ order_of (append_assoc (be w (a / 256)) ((a % 256) ∷ []) xs) (append_assoc (be w (b / 256)) ((b % 256) ∷ []) ys)

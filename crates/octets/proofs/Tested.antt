@@ -2,7 +2,7 @@
 use mathlib.Core.Path.{◌≡◌, refl, sym, ap, ap₂, ◌∙◌}
 use mathlib.Core.Bool.{Bool, true, false}
 use mathlib.Core.List.{List, [], ◌∷◌}
-use Prim.Native.Nat.{ℕ, zero, suc, ◌≤◌, ◌<◌}
+use Prim.Native.Nat.{ℕ, zero, suc, max}
 use native.Mathlib.Omega.{arith}
 use lib.Dec.{eqb}
 use lib.ListN.{length}
@@ -39,15 +39,13 @@ pub both_true : (a b : Bool) → both a b ≡ true → (a ≡ true) × (b ≡ tr
 both_true true b e = (refl, e)
 both_true false b e = absurd (let z : ◌≡◌ {A = ℕ} 0 1 = cc in omega arith)
 
--- of two numbers the larger is 0 exactly when both are
-pub larger_zero : (a b : ℕ) → a < b → eqb b 0 ≡ both (eqb a 0) (eqb b 0)
-larger_zero a b h =
-    let e : eqb b 0 ≡ false = ne_eqb b 0 (λ e. omega arith) in
-    e ∙ sym (both_false (eqb a 0)) ∙ ap (both (eqb a 0)) (sym e)
-
-pub smaller_zero : (a b : ℕ) → b ≤ a → eqb a 0 ≡ both (eqb a 0) (eqb b 0)
-smaller_zero zero b h = sym (eq-eqb b 0 (omega arith))
-smaller_zero (suc a) b h = let e : eqb (suc a) 0 ≡ false = ne_eqb (suc a) 0 (λ e. omega arith) in rw e refl
+-- the larger of two numbers is 0 exactly when both are
+pub max_zero : (a b : ℕ) → eqb (max a b) 0 ≡ both (eqb a 0) (eqb b 0)
+max_zero a zero = ap (λ (n : ℕ). eqb n 0) (let e : max a 0 ≡ a = omega arith in e) ∙ sym (both_end (eqb a 0))
+max_zero a (suc b) =
+    let e : eqb (max a (suc b)) 0 ≡ false = ne_eqb (max a (suc b)) 0 (λ e. omega arith) in
+    let f : eqb (suc b) 0 ≡ false = ne_eqb (suc b) 0 (λ e. omega arith) in
+    e ∙ sym (both_false (eqb a 0)) ∙ ap (both (eqb a 0)) (sym f)
 
 pub zero_all : (n : ℕ) → all_zero (zeros n) ≡ true
 unfolding all_zero

@@ -11,13 +11,11 @@ use lib.ListN.{length, drop, get_or, set, drop_of_length-le}
 use lib.Pow.{pow_mono}
 use borrow.Author.Tests.{eq-eqb, ne_eqb}
 use Rattle.octets.specs.Pick.{both}
-use Rattle.octets.specs.Bytes.{le, le_value, be, be_from, be_value, zeros}
+use Rattle.octets.specs.Bytes.{le, le_value, be, be_from, be_value}
 use Rattle.octets.specs.Place.{area, put}
-use Rattle.octets.specs.Compare.{all_zero, same, order_of}
-use Rattle.octets.specs.declared.Order.TheVariants.{Less, Equal, Greater}
+use Rattle.octets.specs.Compare.{all_zero}
 use Rattle.octets.proofs.Tested.{both_assoc}
 use Rattle.octets.proofs.Digits.{pow_byte}
-use Rattle.octets.proofs.Ordered.{first_less, first_greater, first_equal}
 use Rattle.octets.proofs.Put.{put_first, put_last, put_none}
 use Rattle.octets.proofs.Areas.{cut, area_first, area_last, area_none, area_set_before, area_set_after, length_area}
 
@@ -104,11 +102,6 @@ be_back k x h =
     let q : k ≡ suc (k - 1) = omega arith in
     ap (λ (j : ℕ). be j x) q
 
-pub zeros_next : (i n : ℕ) → i < n → zeros (n - i) ≡ 0 ∷ zeros (n - (i + 1))
-zeros_next i n h =
-    let q : n - i ≡ suc (n - (i + 1)) = omega arith in
-    ap zeros q
-
 pub le_over : (i n x : ℕ) → n ≤ i → le (n - i) x ≡ []
 unfolding le
 le_over i n x h =
@@ -120,11 +113,6 @@ unfolding be
 be_over k x h =
     let q : k ≡ 0 = omega arith in
     ap (λ (j : ℕ). be j x) q
-
-pub zeros_over : (i n : ℕ) → n ≤ i → zeros (n - i) ≡ []
-zeros_over i n h =
-    let q : n - i ≡ 0 = omega arith in
-    ap zeros q
 
 pub area_over : (s : List ℕ) (at n : ℕ) → n ≤ 0 → area at n s ≡ []
 area_over s at n h =
@@ -196,40 +184,3 @@ module _ (s : List ℕ) (i : ℕ) where
       ap (λ (l : List ℕ). both (eqb g 0) (all_zero l)) (cut s i k)
       ∙ both_assoc (eqb g 0) (eqb (get_or s i 0) 0) (all_zero (drop (i + 1) s))
       ∙ ap (λ (t : Bool). both t (all_zero (drop (i + 1) s))) (sym e)
-
-module _ (a b : List ℕ) (i : ℕ) where
-  pub same_next : i < length a → i < length b → get_or a i 0 ≡ get_or b i 0 → same (drop i a) (drop i b) ≡ same (drop (i + 1) a) (drop (i + 1) b)
-  unfolding same
-  same_next h k e = ap₂ same (cut a i h) (cut b i k) ∙ simp eq-eqb
-
-  pub same_stop : i < length a → i < length b → (get_or a i 0 ≡ get_or b i 0 → ⊥) → same (drop i a) (drop i b) ≡ false
-  unfolding same
-  same_stop h k e = ap₂ same (cut a i h) (cut b i k) ∙ simp ne_eqb
-
-  pub same_end : length a ≤ i → length b ≤ i → same (drop i a) (drop i b) ≡ true
-  unfolding same
-  same_end h k = ap₂ same (drop_of_length-le a h) (drop_of_length-le b k)
-
-  pub order_next : i < length a → i < length b → get_or a i 0 ≡ get_or b i 0 → order_of (drop i a) (drop i b) ≡ order_of (drop (i + 1) a) (drop (i + 1) b)
-  unfolding order_of
-  order_next h k e = ap₂ order_of (cut a i h) (cut b i k) ∙ first_equal (get_or a i 0) (get_or b i 0) _ e
-
-  pub order_less : i < length a → i < length b → get_or a i 0 < get_or b i 0 → order_of (drop i a) (drop i b) ≡ Less
-  unfolding order_of
-  order_less h k e = ap₂ order_of (cut a i h) (cut b i k) ∙ first_less (get_or a i 0) (get_or b i 0) _ e
-
-  pub order_greater : i < length a → i < length b → get_or b i 0 < get_or a i 0 → order_of (drop i a) (drop i b) ≡ Greater
-  unfolding order_of
-  order_greater h k e = ap₂ order_of (cut a i h) (cut b i k) ∙ first_greater (get_or a i 0) (get_or b i 0) _ e
-
-  pub order_longer : i < length a → length b ≤ i → order_of (drop i a) (drop i b) ≡ Greater
-  unfolding order_of
-  order_longer h k = ap₂ order_of (cut a i h) (drop_of_length-le b k)
-
-  pub order_shorter : length a ≤ i → i < length b → order_of (drop i a) (drop i b) ≡ Less
-  unfolding order_of
-  order_shorter h k = ap₂ order_of (drop_of_length-le a h) (cut b i k)
-
-  pub order_end : length a ≤ i → length b ≤ i → order_of (drop i a) (drop i b) ≡ Equal
-  unfolding order_of
-  order_end h k = ap₂ order_of (drop_of_length-le a h) (drop_of_length-le b k)

@@ -4,8 +4,7 @@
 --           at       n
 --
 -- Assumes nothing.
-use Rattle.std.specs.Prelude.{List, ◌++◌, ℕ, ◌+◌, ◌-◌, max, leb, length, take, drop}
-use Rattle.std.proofs.Math.Option.{Option, some}
+use Rattle.std.specs.Prelude.{List, ◌++◌, ℕ, ◌+◌, ◌-◌, max, leb, length, take, drop, Option, Some}
 use Rattle.octets.specs.Maybe.{◌>>◌, need}
 use Rattle.octets.specs.Bytes.{zeros}
 
@@ -41,4 +40,4 @@ pub record Taken : Type 0 where
 unfoldable pub take_bytes : ℕ → List ℕ → Option Taken
 take_bytes n s = do
   need (leb n (length s))
-  some (record { bytes = take n s; rest = drop n s })
+  Some (record { bytes = take n s; rest = drop n s })

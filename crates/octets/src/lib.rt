@@ -13,14 +13,6 @@ pub use comparison::{all_zero_from, comes_before, compare, equal};
 pub use number::{read_be, read_le, write_be, write_le};
 pub use place::{copy_in, move_within, splice, zero};
 
-// Which of two byte strings comes first.
-#[derive(Clone, Copy)]
-pub enum Order {
-    Less,
-    Equal,
-    Greater,
-}
-
 // A byte as a wider number, with its range.
 pub fn wide(x: u8) -> u64
     ensures { (result ≡ x) × (result < 256) }

@@ -10,9 +10,7 @@ pub fn read_le(s: &[u8], at: usize, width: usize) -> u64
     ensures { (result ≡ le_value (area at width s.now)) × (result < 2 ^ (8 * width)) }
 {
     let mut v: u64 = 0;
-    let mut k = width;
-    while 0 < k {
-        k -= 1;
+    for k in (0..width).rev() {
         v = v * 256 + crate::wide(s[at + k]);
     }
     v
@@ -23,10 +21,8 @@ pub fn read_be(s: &[u8], at: usize, width: usize) -> u64
     ensures { (result ≡ be_value (area at width s.now)) × (result < 2 ^ (8 * width)) }
 {
     let mut v: u64 = 0;
-    let mut i = 0;
-    while i < width {
+    for i in 0..width {
         v = v * 256 + crate::wide(s[at + i]);
-        i += 1;
     }
     v
 }
@@ -36,11 +32,9 @@ pub fn write_le(d: &mut [u8], at: usize, width: usize, v: u64)
     ensures { d.new ≡ put d.old at (le width v) }
 {
     let mut x = v;
-    let mut i = 0;
-    while i < width {
+    for i in 0..width {
         d[at + i] = (x % 256) as u8;
-        x = x / 256;
-        i += 1;
+        x /= 256;
     }
 }
 
@@ -50,10 +44,8 @@ pub fn write_be(d: &mut [u8], at: usize, width: usize, v: u64)
     ensures { d.new ≡ put d.old at (be width v) }
 {
     let mut x = v;
-    let mut k = width;
-    while 0 < k {
-        k -= 1;
+    for k in (0..width).rev() {
         d[at + k] = (x % 256) as u8;
-        x = x / 256;
+        x /= 256;
     }
 }

@@ -8,33 +8,24 @@ pub fn copy_in(d: &mut [u8], at: usize, s: &[u8])
     requires { at + length s.now ≤ length d.old }
     ensures { d.new ≡ put d.old at s.now }
 {
-    let mut i = 0;
-    while i < s.len() {
-        d[at + i] = s[i];
-        i += 1;
-    }
+    d[at..at + s.len()].copy_from_slice(s);
 }
 
 pub fn zero(d: &mut [u8], at: usize, n: usize)
     requires { at + n ≤ length d.old }
     ensures { d.new ≡ put d.old at (zeros n) }
 {
-    let mut i = 0;
-    while i < n {
-        d[at + i] = 0;
-        i += 1;
-    }
+    d[at..at + n].fill(0);
 }
 
-// To a lower place: from the first byte on, so that no byte is overwritten before it is read.
+// To a lower place: from the first byte on, so that no byte is overwritten before it is read. Two loops in place of std's copy_within, since
+// the edit move_reads_what_it_wrote speaks of the direction.
 fn move_down(s: &mut [u8], from: usize, to: usize, n: usize)
     requires { (from + n ≤ length s.old) × (to ≤ from) }
     ensures { s.new ≡ put s.old to (area from n s.old) }
 {
-    let mut i = 0;
-    while i < n {
+    for i in 0..n {
         s[to + i] = s[from + i];
-        i += 1;
     }
 }
 
@@ -43,9 +34,7 @@ fn move_up(s: &mut [u8], from: usize, to: usize, n: usize)
     requires { (to + n ≤ length s.old) × (from ≤ to) }
     ensures { s.new ≡ put s.old to (area from n s.old) }
 {
-    let mut k = n;
-    while 0 < k {
-        k -= 1;
+    for k in (0..n).rev() {
         s[to + k] = s[from + k];
     }
 }

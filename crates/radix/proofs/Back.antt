@@ -2,7 +2,7 @@
 use mathlib.Core.Path.{◌≡◌, refl, sym, ap, ap₂, ◌∙◌, subst, subst⁻¹}
 use mathlib.Core.Bool.{Bool, true, false, not}
 use mathlib.Core.List.{List, [], ◌∷◌, ◌++◌, cons≢nil}
-use mathlib.Core.Option.{Option, some, none}
+use Rattle.std.proofs.Common.{Option, Some, None}
 use Prim.Native.Nat.{ℕ, zero, suc, ◌≤◌, ◌<◌}
 use native.Mathlib.Nat.{le_refl}
 use native.Mathlib.Omega.{arith}
@@ -17,7 +17,7 @@ use Rattle.radix.proofs.Keys.{From, StartsAt, short_under, longer_from}
 use Rattle.keys.proofs.Laws.{Short, keys_left, keys_right, rising_left, rising_right, map_rising, map_fit}
 use Rattle.radix.proofs.Sorted.{rising_under, longer_some, own_longer, Parted, part, part_same}
 use Rattle.radix.proofs.Fits.{fit_from, fit_short}
-use Rattle.radix.proofs.Rules.{Rules, leaf, only, one_of, Some, rules_canonical, some_under, end_held, held_entries, some_held, prefix_some, some_length}
+use Rattle.radix.proofs.Rules.{Rules, leaf, only, one_of, NotEmpty, rules_canonical, some_under, end_held, held_entries, some_held, prefix_some, some_length}
 
 -- the rules, and the entries
 pub record Good (first : Bool) (least : ℕ) (es : List Entry) (s : Shape) : Type 0 where
@@ -25,13 +25,13 @@ pub record Good (first : Bool) (least : ℕ) (es : List Entry) (s : Shape) : Typ
   pub back : entries_below [] s ≡ es
 
 -- what has no common prefix ends at a key node, or where the keys part
-pub prefix_end : (v : Option ℕ) {c : Shape} → Rules true 0 c → Some (remainders v c) → prefix_of (remainders v c) ≡ [] → is_end v c ≡ true
+pub prefix_end : (v : Option ℕ) {c : Shape} → Rules true 0 c → NotEmpty (remainders v c) → prefix_of (remainders v c) ≡ [] → is_end v c ≡ true
 unfolding entries_below
-prefix_end (some v) r h p = refl
-prefix_end none leaf h p = absurd h
-prefix_end none (only {a = a} {l = l} {v = v} {below = below} e b) h p =
+prefix_end (Some v) r h p = refl
+prefix_end None leaf h p = absurd h
+prefix_end None (only {a = a} {l = l} {v = v} {below = below} e b) h p =
     absurd (cons≢nil (sym (ap prefix_of (entries_only (a ∷ l) v below) ∙ prefix_some (a ∷ l) (remainders v below) (held_entries v (end_held v below e) b)) ∙ p))
-prefix_end none (one_of n k e b m) h p = ap not n
+prefix_end None (one_of n k e b m) h p = ap not n
 
 empty : (l : List ℕ) → length l < 1 → l ≡ []
 empty [] h = refl
@@ -46,7 +46,7 @@ promote (one_of {a = a} {v = v} {below = below} {later = nil} n k e b m) h =
     only (prefix_end v b w (empty (prefix_of (remainders v below)) (omega arith))) b
 promote (one_of {a = a} {later = node l w c r} n k e b m) h = one_of {least = 0} {a = a} refl (omega arith) e b m
 
-inside_some : (b : ℕ) (k : List ℕ) (v : ℕ) (es xs rest : List Entry) → under (b ∷ []) xs ++ rest ≡ entry (b ∷ k) v ∷ es → From (suc b) rest → Some xs
+inside_some : (b : ℕ) (k : List ℕ) (v : ℕ) (es xs rest : List Entry) → under (b ∷ []) xs ++ rest ≡ entry (b ∷ k) v ∷ es → From (suc b) rest → NotEmpty xs
 inside_some b k v es [] rest e f = let g : From (suc b) (entry (b ∷ k) v ∷ es) = subst (From (suc b)) e f in absurd (omega (arith, g.0))
 inside_some b k v es (x ∷ xs) rest e f = tt
 
@@ -59,13 +59,13 @@ no_longer (e ∷ es) h = go e.key e.value h.0 (no_longer es h.1)
     go [] v h ih = ih
     go (b ∷ k) v h ih = absurd (omega arith)
 
-some_prefix : (p : List ℕ) (es xs : List Entry) → es ≡ under p xs → 1 ≤ length (prefix_of es) → Some xs
+some_prefix : (p : List ℕ) (es xs : List Entry) → es ≡ under p xs → 1 ≤ length (prefix_of es) → NotEmpty xs
 unfolding prefix_of
 some_prefix p es [] e h = let n = ap (λ (z : List Entry). length (prefix_of z)) e in absurd (omega arith)
 some_prefix p es (x ∷ xs) e h = tt
 
 -- past the longest common prefix there is none
-pub past_prefix : (es xs : List Entry) → es ≡ under (prefix_of es) xs → Some xs → prefix_of xs ≡ []
+pub past_prefix : (es xs : List Entry) → es ≡ under (prefix_of es) xs → NotEmpty xs → prefix_of xs ≡ []
 past_prefix es xs e h =
     let p = prefix_of es in
     let n = ap length (ap prefix_of e ∙ prefix_some p xs h) in
@@ -76,7 +76,7 @@ module _ (c : List Entry → Shape) (f : ℕ) (good : (xs : List Entry) → risi
   remains : (xs : List Entry) → rising xs ≡ true → Short f xs → remainders (own xs) (c xs) ≡ xs
   remains xs r h = ap (λ (z : List Entry). own_entry [] (own xs) ++ z) (good xs r h).back ∙ own_longer xs r
 
-  run_good : (a : ℕ) (q : List ℕ) (xs : List Entry) → rising (under (a ∷ q) xs) ≡ true → Short (suc f) (under (a ∷ q) xs) → Some xs → prefix_of xs ≡ []
+  run_good : (a : ℕ) (q : List ℕ) (xs : List Entry) → rising (under (a ∷ q) xs) ≡ true → Short (suc f) (under (a ∷ q) xs) → NotEmpty xs → prefix_of xs ≡ []
       → Good true 0 (under (a ∷ q) xs) (node (a ∷ q) (own xs) (c xs) nil)
   run_good a q xs r h w p =
       let r = sym (rising_under (a ∷ q) xs) ∙ r in
@@ -87,7 +87,7 @@ module _ (c : List Entry → Shape) (f : ℕ) (good : (xs : List Entry) → risi
         back = entries_only (a ∷ q) (own xs) (c xs) ∙ ap (under (a ∷ q)) e;
       }
 
-  node_good : (least b : ℕ) (xs rest : List Entry) (later : Shape) → least ≤ b → rising xs ≡ true → Short f xs → Some xs → Good false (suc b) rest later
+  node_good : (least b : ℕ) (xs rest : List Entry) (later : Shape) → least ≤ b → rising xs ≡ true → Short f xs → NotEmpty xs → Good false (suc b) rest later
       → Good false least (under (b ∷ []) xs ++ rest) (node (b ∷ []) (own xs) (c xs) later)
   node_good least b xs rest later n r h w g =
       let e = remains xs r h in
@@ -97,7 +97,7 @@ module _ (c : List Entry → Shape) (f : ℕ) (good : (xs : List Entry) → risi
       }
 
   -- what the entries that start with b, and the others, make
-  parted_good : (n least b : ℕ) (es : List Entry) (w : Parted b es) → least ≤ b → Some w.inside → rising es ≡ true → Short (suc f) es → length es ≤ suc n
+  parted_good : (n least b : ℕ) (es : List Entry) (w : Parted b es) → least ≤ b → NotEmpty w.inside → rising es ≡ true → Short (suc f) es → length es ≤ suc n
       → ((xs : List Entry) → rising xs ≡ true → Short (suc f) xs → From (suc b) xs → length xs ≤ n → Good false (suc b) xs (branch c n xs))
       → Good false least es (child c (b ∷ []) (starting_with b es) (branch c n (not_starting_with b es)))
   parted_good n least b es w m i r h k ih =

@@ -2,7 +2,7 @@
 use mathlib.Core.Path.{◌≡◌, refl, sym, ap, ◌∙◌, subst}
 use mathlib.Core.Bool.{Bool, true, false, true≢false}
 use mathlib.Core.List.{List, [], ◌∷◌}
-use mathlib.Core.Option.{Option, some, none}
+use Rattle.std.proofs.Common.{Option, Some, None}
 use Prim.Native.Nat.{ℕ, suc, ◌+◌, ◌*◌, ◌≤◌}
 use native.Mathlib.Omega.{arith}
 use lib.ListN.{length, drop, length-append, length-drop}
@@ -12,7 +12,7 @@ use Rattle.radix.specs.Shape.{Shape, nil, node, own_entry, entries_below, longer
 use Rattle.radix.specs.Canon.{is_nil, is_end, is_held}
 use Rattle.radix.proofs.Under.{under, remainders, entries_node, length_under}
 use Rattle.keys.proofs.Laws.{map_length}
-use Rattle.radix.proofs.Rules.{Rules, leaf, only, one_of, Some, length_some}
+use Rattle.radix.proofs.Rules.{Rules, leaf, only, one_of, NotEmpty, length_some}
 use Rattle.radix.proofs.Back.{shape_back, shape_rules}
 
 keys : Shape → ℕ
@@ -45,17 +45,17 @@ spare_siblings (node l v below later) = omega arith
 
 spare_end : (v : Option ℕ) (below : Shape) → is_end v below ≡ true → 4 ≤ 4 * own_keys v + spare true below
 unfolding spare width own_keys
-spare_end (some v) below h = omega arith
-spare_end none nil h = absurd (true≢false (sym h))
-spare_end none (node l v below nil) h = absurd (true≢false (sym h))
-spare_end none (node l v below (node l' v' below' later)) h = omega arith
+spare_end (Some v) below h = omega arith
+spare_end None nil h = absurd (true≢false (sym h))
+spare_end None (node l v below nil) h = absurd (true≢false (sym h))
+spare_end None (node l v below (node l' v' below' later)) h = omega arith
 
 spare_held : (v : Option ℕ) (below : Shape) → is_held v below ≡ true → 3 ≤ 4 * own_keys v + spare true below
 unfolding spare width own_keys
-spare_held (some v) below h = omega arith
-spare_held none nil h = absurd (true≢false (sym h))
-spare_held none (node l v below nil) h = omega arith
-spare_held none (node l v below (node l' v' below' later)) h = omega arith
+spare_held (Some v) below h = omega arith
+spare_held None nil h = absurd (true≢false (sym h))
+spare_held None (node l v below nil) h = omega arith
+spare_held None (node l v below (node l' v' below' later)) h = omega arith
 
 spare_nodes : {first : Bool} {least : ℕ} {s : Shape} → Rules first least s → nodes s + spare first s ≤ 4 * keys s
 unfolding nodes spare
@@ -65,20 +65,20 @@ spare_nodes (only {a = a} {l = l} {v = v} {below = below} e b) =
 spare_nodes (one_of {a = a} {v = v} {below = below} {later = later} n h e b m) =
     rw n (omega (arith, keys_node (a ∷ []) v below later, spare_held v below e, spare_nodes b, spare_nodes m, spare_siblings later))
 
-spare_some : (s : Shape) → Some (entries_below [] s) → 3 ≤ spare true s
+spare_some : (s : Shape) → NotEmpty (entries_below [] s) → 3 ≤ spare true s
 unfolding entries_below spare width
 spare_some nil h = absurd h
 spare_some (node l v below nil) h = omega arith
 spare_some (node l v below (node l' v' below' later)) h = omega arith
 
-pub children_nodes : {s : Shape} → Rules true 0 s → Some (entries_below [] s) → nodes s + 3 ≤ 4 * length (entries_below [] s)
+pub children_nodes : {s : Shape} → Rules true 0 s → NotEmpty (entries_below [] s) → nodes s + 3 ≤ 4 * length (entries_below [] s)
 unfolding keys
 children_nodes {s} r h = omega (arith, spare_nodes r, spare_some s h)
 
 pub shape_nodes : (es : List Entry) → is_map es ≡ true → 1 ≤ length es → nodes (shape es) + 3 ≤ 4 * length es
 shape_nodes es m h =
     let b = shape_back es m in
-    omega (arith, children_nodes (shape_rules es m) (subst Some (sym b) (length_some es h)), ap length b)
+    omega (arith, children_nodes (shape_rules es m) (subst NotEmpty (sym b) (length_some es h)), ap length b)
 
 pub count_none : node_count [] ≡ 1
 unfolding node_count nodes shape children_of branch prefix_of longer

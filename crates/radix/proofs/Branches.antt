@@ -17,7 +17,7 @@ use Rattle.radix.proofs.Under.{under, cut_under, prefix_cut, length_under}
 use Rattle.radix.proofs.Keys.{StartsAt, From}
 use Rattle.keys.proofs.Laws.{Short, rising_left, rising_tail}
 use Rattle.radix.proofs.Sorted.{part, rising_under, above_from, longer_some, own_longer}
-use Rattle.radix.proofs.Rules.{Some, some_length, prefix_some, length_some}
+use Rattle.radix.proofs.Rules.{NotEmpty, some_length, prefix_some, length_some}
 
 alike_none : (b : ℕ) (es : List Entry) → From (suc b) es → alike b es ≡ 0
 unfolding alike
@@ -40,7 +40,7 @@ pub record Grouped (es : List Entry) : Type 0 where
   pub later : List Entry
   pub joined : es ≡ under (b ∷ []) inside ++ later
   pub over : From (suc b) later
-  pub held : Some inside
+  pub held : NotEmpty inside
   pub size : group es ≡ length inside
 
 pub grouped : (e : Entry) (es : List Entry) → rising (e ∷ es) ≡ true → StartsAt 0 e.key → Grouped (e ∷ es)
@@ -91,7 +91,7 @@ pub record Branch (first : Bool) (es : List Entry) : Type 0 where
   pub rest : List Entry
   pub size : length label ≡ stretch first es
   pub taken : take (group es) es ≡ under label rest
-  pub held : Some rest
+  pub held : NotEmpty rest
   pub rises : rising rest ≡ true
   pub long : 1 ≤ length label
 
@@ -99,7 +99,7 @@ module _ {first : Bool} {es : List Entry} (w : Branch first es) where
   pub branch_rest : cut (stretch first es) (take (group es) es) ≡ w.rest
   branch_rest = ap₂ cut (sym w.size) w.taken ∙ cut_under w.label w.rest
 
-  label_first : (xs : List Entry) → Some xs → take (length w.label) (first_key (under w.label xs)) ≡ w.label
+  label_first : (xs : List Entry) → NotEmpty xs → take (length w.label) (first_key (under w.label xs)) ≡ w.label
   label_first [] s = absurd s
   label_first (x ∷ xs) s = take_at w.label x.key (length w.label) refl
 

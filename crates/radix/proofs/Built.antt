@@ -43,15 +43,14 @@ module _ (t : Columns) (n : ℕ) (m : is_map (rows_from t 0 n) ≡ true) where
   few : n ≤ 64
   few = omega (arith, map_length (rows_from t 0 n) m, length_rows t 0 n)
 
-  pub ready_all : (label : List ℕ) → length t.key ≡ 1024 → length label ≡ 4096 → Ready t 80 true 0 n 0 1 label
-  ready_all label k l =
+  pub ready_all : length t.key ≡ 1024 → Ready t 80 true 0 n 0 1
+  ready_all k =
       let f : From 0 (cut 0 (rows_from t 0 n)) = subst⁻¹ (From 0) (cut_zero (rows_from t 0 n)) (fit_from (rows_from t 0 n) (map_fit (rows_from t 0 n) m)) in
       record {
         order = omega arith;
         most = few;
         deep = omega arith;
         keys = k;
-        labels = l;
         long = λ i p q. from_long t 0 k 0 n (omega (arith, few)) f i p (omega arith);
         rises = ap rising all_rows ∙ map_rising (rows_from t 0 n) m;
         room = omega (arith, ap nodes shape_rows, nodes_most (rows_from t 0 n) m);

@@ -1,7 +1,7 @@
 -- The fields of a record made of keys that are bytes are bytes: its labels are parts of keys. Assumes nothing.
 use mathlib.Core.Bool.{Bool, true, false}
 use mathlib.Core.List.{List, [], ◌∷◌}
-use mathlib.Core.Option.{Option, some, none}
+use Rattle.std.proofs.Common.{Option, Some, None}
 use Prim.Native.Nat.{ℕ, zero, suc, ◌+◌, ◌*◌, ◌<◌}
 use native.Mathlib.Omega.{arith}
 use lib.Dec.{leb, eqb}
@@ -106,8 +106,8 @@ pub record ByteFields (x : Nodes) : Type 0 where
   pub label : Bytes x.label
 
 flag_small : (v : Option ℕ) → flag_of v < 256
-flag_small none = omega arith
-flag_small (some v) = omega arith
+flag_small None = omega arith
+flag_small (Some v) = omega arith
 
 pub laid_bytes : (s : Shape) (n : ℕ) (x : Nodes) → Labels s → LabelBytes s → ByteFields x → ByteFields (laid s n x)
 unfolding laid nodes

@@ -2,7 +2,7 @@
 use mathlib.Core.Bool.{true}
 use mathlib.Core.Path.{◌≡◌, ◌∙◌, subst⁻¹}
 use mathlib.Core.List.{List, [], ◌∷◌, ◌++◌}
-use mathlib.Core.Option.{Option, some, none}
+use Rattle.std.proofs.Common.{Option, Some, None}
 use Prim.Native.Nat.{ℕ, zero, suc, ◌+◌, ◌^◌, ◌≤◌, ◌<◌}
 use native.Mathlib.Omega.{arith}
 use borrow.Author.Tests.{ltb-true}
@@ -41,13 +41,13 @@ abbrev Values : Shape → Type 0
 Values nil = Unit {0}
 Values (node l v below later) = (value_or0 v < 2 ^ 32) × (Values below × Values later)
 
-own_small : (k : List ℕ) (v : Option ℕ) (old all : List Entry) → with_own k v old ≡ some all → value_or0 v < 2 ^ 32
-own_small k none old all e = omega arith
-own_small k (some v) old all e =
-    let p = need_some (both (ltb (length old) 64) (ltb v (2 ^ 32))) (some (old ++ (entry k v ∷ []))) e in
+own_small : (k : List ℕ) (v : Option ℕ) (old all : List Entry) → with_own k v old ≡ Some all → value_or0 v < 2 ^ 32
+own_small k None old all e = omega arith
+own_small k (Some v) old all e =
+    let p = need_some (both (ltb (length old) 64) (ltb v (2 ^ 32))) (Some (old ++ (entry k v ∷ []))) e in
     ltb-true v (2 ^ 32) (both_true (ltb (length old) 64) (ltb v (2 ^ 32)) p.0).1
 
-values_small : (before : List ℕ) (s : Shape) (old all : List Entry) → gathered before s old ≡ some all → Values s
+values_small : (before : List ℕ) (s : Shape) (old all : List Entry) → gathered before s old ≡ Some all → Values s
 unfolding gathered
 values_small before nil old all e = tt
 values_small before (node l v below later) old all e =

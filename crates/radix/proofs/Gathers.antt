@@ -2,7 +2,7 @@
 use mathlib.Core.Bool.{true, false}
 use mathlib.Core.Path.{◌≡◌, ap, ◌∙◌}
 use mathlib.Core.List.{List, [], ◌∷◌, ◌++◌}
-use mathlib.Core.Option.{Option, some, none}
+use Rattle.std.proofs.Common.{Option, Some, None}
 use Prim.Native.Nat.{ℕ, ◌+◌, ◌*◌, ◌-◌, ◌≤◌, ◌<◌}
 use native.Mathlib.Omega.{arith}
 use borrow.Author.Tests.{le-leb, lt-leb}
@@ -12,23 +12,20 @@ use Rattle.octets.proofs.Laws.{length_area}
 use Rattle.keys.specs.Entries.{Entry, entry, length_of}
 use Rattle.radix.specs.Shape.{node}
 use Rattle.radix.specs.Record.{Nodes, leads_on, label_of, value_of, tree_at}
-use Rattle.keys.specs.Table.{Columns, rows_from}
 use Rattle.radix.specs.Gathering.{with_own, gathered}
 use Rattle.radix.proofs.Turns.{leads_to, tree_not, tree_node}
 use mathlib.Core.Bool.{true, false}
 use mathlib.Core.Path.{◌≡◌, ap, ◌∙◌}
 use mathlib.Core.List.{List, ◌∷◌, ◌++◌}
-use mathlib.Core.Option.{Option, some, none}
 use Prim.Native.Nat.{ℕ, ◌+◌, ◌*◌, ◌-◌, ◌≤◌, ◌<◌, ◌^◌}
 use native.Mathlib.Omega.{arith}
 use borrow.Author.Tests.{ne_eqb, lt-ltb, le-ltb}
 use lib.Dec.{eqb}
 use lib.ListN.{length, get_or}
 use Rattle.octets.specs.Pick.{pick}
-use Rattle.keys.proofs.Laws.{length_rows}
 
 module _ (x : Nodes) (left link : ℕ) (before : List ℕ) (es : List Entry) where
-  pub gather_nil : leads_on left link ≡ false → some es ≡ gathered before (tree_at left x link) es
+  pub gather_nil : leads_on left link ≡ false → Some es ≡ gathered before (tree_at left x link) es
   unfolding gathered
   gather_nil e = rw (tree_not x left link e)
 
@@ -40,7 +37,7 @@ module _ (x : Nodes) (left link : ℕ) (before : List ℕ) (es : List Entry) whe
     long : length (label_of x (link - 1)) ≡ n
     long = let h = leads_to left link on in rw (← e) (length_area (16 * (link - 1)) n x.label (omega arith))
 
-    pub gather_deep : 16 < d + n → none ≡ gathered before (tree_at left x link) es
+    pub gather_deep : 16 < d + n → None ≡ gathered before (tree_at left x link) es
     unfolding gathered
     gather_deep h = rw (at_node, b, long, lt-leb (d + n) 16 h)
 
@@ -48,28 +45,27 @@ module _ (x : Nodes) (left link : ℕ) (before : List ℕ) (es : List Entry) whe
       whole : here ≡ before ++ label_of x (link - 1)
       whole = h ∙ ap (λ (m : ℕ). before ++ area (16 * (link - 1)) m x.label) e
 
-      pub gather_full : o ≡ none → none ≡ gathered before (tree_at left x link) es
+      pub gather_full : o ≡ None → None ≡ gathered before (tree_at left x link) es
       unfolding gathered
       gather_full z = rw (at_node, b, long, le-leb (d + n) 16 fit, ← whole, ← w, z)
 
-      module _ (fs : List Entry) (p : o ≡ some fs) (c : ℕ) (g : c ≡ get_or x.child (link - 1) 0) (q : Option (List Entry)) (r : q ≡ gathered here (tree_at (left - 1) x c) fs) where
-        pub gather_below : q ≡ none → none ≡ gathered before (tree_at left x link) es
+      module _ (fs : List Entry) (p : o ≡ Some fs) (c : ℕ) (g : c ≡ get_or x.child (link - 1) 0) (q : Option (List Entry)) (r : q ≡ gathered here (tree_at (left - 1) x c) fs) where
+        pub gather_below : q ≡ None → None ≡ gathered before (tree_at left x link) es
         unfolding gathered
         gather_below z = rw (at_node, b, long, le-leb (d + n) 16 fit, ← whole, ← w, p, ← g, ← r, z)
 
-        pub gather_later : (gs : List Entry) → q ≡ some gs → (l : ℕ) → l ≡ get_or x.next (link - 1) 0
+        pub gather_later : (gs : List Entry) → q ≡ Some gs → (l : ℕ) → l ≡ get_or x.next (link - 1) 0
             → gathered before (tree_at (left - 1) x l) gs ≡ gathered before (tree_at left x link) es
         unfolding gathered
         gather_later gs z l k = rw (at_node, b, long, le-leb (d + n) 16 fit, ← whole, ← w, p, ← g, ← r, z, ← k)
 
 -- a key node's own row
-module _ (k : List ℕ) (f v : ℕ) (t : Columns) (n : ℕ) where
-  pub own_none : f ≡ 0 → some (rows_from t 0 n) ≡ with_own k (pick (eqb f 0) none (some v)) (rows_from t 0 n)
+module _ (k : List ℕ) (f v : ℕ) (es : List Entry) (n : ℕ) (l : length es ≡ n) where
+  pub own_none : f ≡ 0 → Some es ≡ with_own k (pick (eqb f 0) None (Some v)) es
   own_none z = rw z
 
-  pub own_full : (f ≡ 0 → ⊥) → 64 ≤ n → none ≡ with_own k (pick (eqb f 0) none (some v)) (rows_from t 0 n)
-  own_full z h = rw (ne_eqb f 0 z, length_rows t 0 n, le-ltb n 64 h)
+  pub own_full : (f ≡ 0 → ⊥) → 64 ≤ n → None ≡ with_own k (pick (eqb f 0) None (Some v)) es
+  own_full z h = rw (ne_eqb f 0 z, l, le-ltb n 64 h)
 
-  pub own_added : (f ≡ 0 → ⊥) → n < 64 → v < 2 ^ 32 → (u : Columns) → rows_from u 0 (n + 1) ≡ rows_from t 0 n ++ (entry k v ∷ [])
-      → some (rows_from u 0 (n + 1)) ≡ with_own k (pick (eqb f 0) none (some v)) (rows_from t 0 n)
-  own_added z h w u e = rw (ne_eqb f 0 z, length_rows t 0 n, lt-ltb n 64 h, lt-ltb v (2 ^ 32) w, e)
+  pub own_added : (f ≡ 0 → ⊥) → n < 64 → v < 2 ^ 32 → (fs : List Entry) → fs ≡ es ++ (entry k v ∷ []) → Some fs ≡ with_own k (pick (eqb f 0) None (Some v)) es
+  own_added z h w fs e = rw (ne_eqb f 0 z, l, lt-ltb n 64 h, lt-ltb v (2 ^ 32) w, e)

@@ -2,7 +2,7 @@
 use mathlib.Core.Bool.{Bool, true, false}
 use mathlib.Core.Path.{◌≡◌, refl, sym, ap, ap₂, ◌∙◌, subst, subst⁻¹}
 use mathlib.Core.List.{List, [], ◌∷◌}
-use mathlib.Core.Option.{Option, some, none}
+use Rattle.std.proofs.Common.{Option, Some, None}
 use Prim.Native.Nat.{ℕ, zero, suc, ◌+◌, ◌*◌, ◌-◌, ◌≤◌, ◌<◌}
 use native.Mathlib.Nat.{add-zero}
 use native.Mathlib.Omega.{arith}
@@ -51,7 +51,7 @@ common_short (a ∷ x) (b ∷ y) = go (eqb a b) (common_short x y)
     go true h = omega arith
     go false h = omega arith
 
-module _ (t : Columns) (left : ℕ) (first : Bool) (a b d at : ℕ) (lab : List ℕ) (r : Ready t left first a b d at lab) (lt : a < b) where
+module _ (t : Columns) (left : ℕ) (first : Bool) (a b d at : ℕ) (r : Ready t left first a b d at) (lt : a < b) where
   head : Entry
   head = entry (drop d (area (16 * a) (length_of t.len a) t.key)) (get_or t.val a 0)
 
@@ -184,20 +184,20 @@ module _ (t : Columns) (left : ℕ) (first : Bool) (a b d at : ℕ) (lab : List 
           ap (λ (k : ℕ). cut (d + n) (rows_from t a k)) e ∙ cut_cons t (d + n) a (m - (a + 1))
 
       by_key : (k : List ℕ) (v : ℕ) (es : List Entry) (w : Bool) → (w ≡ true → length k ≡ 0) → (w ≡ false → 1 ≤ length k)
-          → (own_first (entry k v ∷ es) ≡ pick w (some v) none) × (after_own (entry k v ∷ es) ≡ pick w es (entry k v ∷ es))
+          → (own_first (entry k v ∷ es) ≡ pick w (Some v) None) × (after_own (entry k v ∷ es) ≡ pick w es (entry k v ∷ es))
       by_key [] v es true p q = (refl, refl)
       by_key [] v es false p q = absurd (omega (arith, q refl))
       by_key (c ∷ k) v es true p q = absurd (omega (arith, p refl))
       by_key (c ∷ k) v es false p q = (refl, refl)
 
-      own_parts : (own_first (entry first_rest (get_or t.val a 0) ∷ rest_at t (d + n) (a + 1) m) ≡ pick u (some (get_or t.val a 0)) none)
+      own_parts : (own_first (entry first_rest (get_or t.val a 0) ∷ rest_at t (d + n) (a + 1) m) ≡ pick u (Some (get_or t.val a 0)) None)
           × (after_own (entry first_rest (get_or t.val a 0) ∷ rest_at t (d + n) (a + 1) m) ≡ pick u (rest_at t (d + n) (a + 1) m) (entry first_rest (get_or t.val a 0) ∷ rest_at t (d + n) (a + 1) m))
       own_parts =
           by_key first_rest (get_or t.val a 0) (rest_at t (d + n) (a + 1) m) u
           (λ w. let z : length_of t.len a ≡ d + n = eqb-true (length_of t.len a) (d + n) (eu ∙ w) in omega (arith, first_size))
           (λ w. let z : length_of t.len a ≡ d + n → ⊥ = eqb-false (length_of t.len a) (d + n) (eu ∙ w) in omega (arith, first_size, label_fits))
 
-      own_is : own_first (rest_at t (d + n) a m) ≡ pick u (some (get_or t.val a 0)) none
+      own_is : own_first (rest_at t (d + n) a m) ≡ pick u (Some (get_or t.val a 0)) None
       own_is = ap own_first rows_cons ∙ own_parts.0
 
       after_is : after_own (rest_at t (d + n) a m) ≡ rest_at t (d + n) (a + pick u 1 0) m
@@ -209,7 +209,7 @@ module _ (t : Columns) (left : ℕ) (first : Bool) (a b d at : ℕ) (lab : List 
 
       -- the node, and what it needs of the rows below and of the later ones
       pub grown : 0 < left → sprout left first (rest_at t d a b)
-          ≡ node (area (16 * a + d) n t.key) (pick u (some (get_or t.val a 0)) none)
+          ≡ node (area (16 * a + d) n t.key) (pick u (Some (get_or t.val a 0)) None)
           (sprout (left - 1) true (rest_at t (d + n) (a + pick u 1 0) m)) (sprout (left - 1) false (rest_at t d m b))
       unfolding sprout
       grown h =
@@ -218,7 +218,7 @@ module _ (t : Columns) (left : ℕ) (first : Bool) (a b d at : ℕ) (lab : List 
           ∙ opened (sprout (left - 1))
           ∙ ap₂ (λ (l : List ℕ) (z : List Entry). node l (own_first z) (sprout (left - 1) true (after_own z)) (sprout (left - 1) false (drop (group (rest_at t d a b)) (rest_at t d a b)))) label_is inner
           ∙ ap₂ (λ (o : Option ℕ) (z : List Entry). node (area (16 * a + d) n t.key) o (sprout (left - 1) true z) (sprout (left - 1) false (drop (group (rest_at t d a b)) (rest_at t d a b)))) own_is after_is
-          ∙ ap (λ (z : List Entry). node (area (16 * a + d) n t.key) (pick u (some (get_or t.val a 0)) none) (sprout (left - 1) true (rest_at t (d + n) (a + pick u 1 0) m)) (sprout (left - 1) false z)) back
+          ∙ ap (λ (z : List Entry). node (area (16 * a + d) n t.key) (pick u (Some (get_or t.val a 0)) None) (sprout (left - 1) true (rest_at t (d + n) (a + pick u 1 0) m)) (sprout (left - 1) false z)) back
         where
           opened : (go : Bool → List Entry → Shape) → sprout_all go first (rest_at t d a b)
               ≡ sprout_node go (stretch first (rest_at t d a b)) (take (group (rest_at t d a b)) (rest_at t d a b)) (drop (group (rest_at t d a b)) (rest_at t d a b))
@@ -236,7 +236,7 @@ module _ (t : Columns) (left : ℕ) (first : Bool) (a b d at : ℕ) (lab : List 
       unfolding nodes
       sum h = ap nodes (grown h)
 
-      pub ready_later : 0 < left → Ready t (left - 1) false m b d at lab
+      pub ready_later : 0 < left → Ready t (left - 1) false m b d at
       ready_later h =
           let p = end_within in
           record {
@@ -244,7 +244,6 @@ module _ (t : Columns) (left : ℕ) (first : Bool) (a b d at : ℕ) (lab : List 
             most = r.most;
             deep = r.deep;
             keys = r.keys;
-            labels = r.labels;
             long = λ i u w. r.long i (omega arith) w;
             rises =
                 subst (λ (es : List Entry). rising es ≡ true) (sym (group_drop (rest_at t d a b) grp) ∙ back)
@@ -258,9 +257,9 @@ module _ (t : Columns) (left : ℕ) (first : Bool) (a b d at : ℕ) (lab : List 
       below_rising : rising (rest_at t (d + n) (a + pick u 1 0) m) ≡ true
       below_rising = subst (λ (es : List Entry). rising es ≡ true) (ap after_own rest_is ∙ after_is) (after_rising brn.rest brn.rises)
 
-      pub ready_below : 0 < left → (f : ℕ) (lab' : List ℕ) → f ≡ at + nodes (sprout (left - 1) false (rest_at t d m b)) → length lab' ≡ 4096
-          → Ready t (left - 1) true (a + pick u 1 0) m (d + n) f lab'
-      ready_below h f lab' e l =
+      pub ready_below : 0 < left → (f : ℕ) → f ≡ at + nodes (sprout (left - 1) false (rest_at t d m b))
+          → Ready t (left - 1) true (a + pick u 1 0) m (d + n) f
+      ready_below h f e =
           let p = end_within in
           let s = skip_one in
           record {
@@ -268,7 +267,6 @@ module _ (t : Columns) (left : ℕ) (first : Bool) (a b d at : ℕ) (lab : List 
             most = omega (arith, r.most);
             deep = omega (arith, label_fits);
             keys = r.keys;
-            labels = l;
             long = λ i v w. from_long t (d + n) r.keys (a + pick u 1 0) (m - (a + pick u 1 0)) (omega (arith, r.most)) below_from i v (omega arith);
             rises = below_rising;
             room = omega (arith, sum h, r.room);
@@ -283,26 +281,17 @@ unfolding nodes
 link_is n nil = rw (add-zero, eq-eqb n n refl)
 link_is n (node l v below later) = let z : n ≡ n + (1 + nodes below + nodes later) → ⊥ = omega arith in rw (ne_eqb n (n + (1 + nodes below + nodes later)) z)
 
-flag_is : (u : Bool) (v : ℕ) → flag_of (pick u (some v) none) ≡ pick u 1 0
-flag_is true v = refl
-flag_is false v = refl
-
-value_is : (u : Bool) (v : ℕ) → value_or0 (pick u (some v) none) ≡ pick u v 0
-value_is true v = refl
-value_is false v = refl
-
--- the node written after its later siblings and its children
-pub laid_step : {s : Shape} (l : List ℕ) (u : Bool) (v : ℕ) (below later : Shape) (x : Nodes) (at f g key val c n : ℕ) (y : Nodes)
-    → s ≡ node l (pick u (some v) none) below later → f ≡ at + nodes later → g ≡ f + nodes below
-    → key ≡ pick u 1 0 → val ≡ pick u v 0 → c ≡ pick (eqb f g) 0 g → n ≡ pick (eqb at f) 0 f
-    → y ≡ with_cell (laid below f (laid later at x)) g l key val c n
+pub laid_step : {s : Shape} (l : List ℕ) (u : Bool) (v : ℕ) (below later : Shape) (x : Nodes) (at f g : ℕ) (o : Option ℕ) (c n : ℕ) (y : Nodes)
+    → s ≡ node l (pick u (Some v) None) below later → f ≡ at + nodes later → g ≡ f + nodes below
+    → o ≡ pick u (Some v) None → c ≡ pick (eqb f g) 0 g → n ≡ pick (eqb at f) 0 f
+    → y ≡ with_cell (laid below f (laid later at x)) g l (flag_of o) (value_or0 o) c n
     → (g + 1 ≡ at + nodes s) × (y ≡ laid s at x)
 unfolding laid nodes
-laid_step {s} l u v below later x at f g key val c n y e ef eg ek ev ec en ey =
+laid_step {s} l u v below later x at f g o c n y e ef eg eo ec en ey =
     let ck : c ≡ link_to (at + nodes later) below = ec ∙ ap (λ (k : ℕ). pick (eqb f k) 0 k) eg ∙ link_is f below ∙ ap (λ (k : ℕ). link_to k below) ef in
     let nk : n ≡ link_to at later = en ∙ ap (λ (k : ℕ). pick (eqb at k) 0 k) ef ∙ link_is at later in
     let gk : g ≡ at + nodes later + nodes below = eg ∙ ap (λ (k : ℕ). k + nodes below) ef in
-    (omega (arith, ap nodes e), ey ∙ rw (e, ← ck, ← nk, ← gk, ← ef, flag_is u v, value_is u v, ← ek, ← ev))
+    (omega (arith, ap nodes e), ey ∙ rw (e, ← ck, ← nk, ← gk, ← ef, ← eo))
 
 -- nothing to lay
 pub laid_none : {s : Shape} (at : ℕ) (x : Nodes) → s ≡ nil → (at ≡ at + nodes s) × (x ≡ laid s at x)

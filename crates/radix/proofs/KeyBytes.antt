@@ -1,7 +1,7 @@
 -- The keys of a record whose labels are bytes are bytes. Assumes nothing.
 use mathlib.Core.Bool.{Bool, true, false}
 use mathlib.Core.List.{List, ◌++◌}
-use mathlib.Core.Option.{Option, some, none}
+use Rattle.std.proofs.Common.{Option, Some, None}
 use Prim.Native.Nat.{ℕ, zero, suc, ◌*◌}
 use lib.Dec.{ltb}
 use lib.ListN.{get_or}
@@ -29,8 +29,8 @@ tree_bytes (suc most) x (suc p) h = go (ltb p 256) (tree_bytes most x (get_or x.
     go false b l = tt
 
 own_bytes : (k : List ℕ) (v : Option ℕ) → Bytes k → Keys Bytes (own_entry k v)
-own_bytes k none h = tt
-own_bytes k (some v) h = (h, tt)
+own_bytes k None h = tt
+own_bytes k (Some v) h = (h, tt)
 
 pub entries_bytes : (before : List ℕ) (s : Shape) → Bytes before → LabelBytes s → Keys Bytes (entries_below before s)
 unfolding entries_below

@@ -2,7 +2,7 @@
 use mathlib.Core.Path.{◌≡◌, refl, ap}
 use mathlib.Core.Bool.{false}
 use mathlib.Core.List.{List, [], ◌∷◌, ◌++◌}
-use mathlib.Core.Option.{none}
+use Rattle.std.proofs.Common.{None}
 use Prim.Native.Nat.{ℕ, suc, ◌≤◌}
 use native.Mathlib.Omega.{arith}
 use lib.Dec.{eqb}
@@ -60,12 +60,12 @@ longer_from n (e ∷ es) h = go e.key e.value h.0 (longer_from n es h.1)
     go [] v p ih = absurd p
     go (b ∷ k) v p ih = ap (λ (z : List Entry). entry (b ∷ k) v ∷ z) ih
 
-pub own_from_lem : (n : ℕ) (es : List Entry) → From n es → own es ≡ none
+pub own_from_lem : (n : ℕ) (es : List Entry) → From n es → own es ≡ None
 unfolding own
 own_from_lem n [] h = refl
 own_from_lem n (e ∷ es) h = go e.key e.value h.0 (own_from_lem n es h.1)
   where
-    go : (k : List ℕ) (v : ℕ) → StartsAt n k → own es ≡ none → own (entry k v ∷ es) ≡ none
+    go : (k : List ℕ) (v : ℕ) → StartsAt n k → own es ≡ None → own (entry k v ∷ es) ≡ None
     go [] v p ih = absurd p
     go (b ∷ k) v p ih = ih
 

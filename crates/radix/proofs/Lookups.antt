@@ -2,13 +2,13 @@
 use mathlib.Core.Path.{◌≡◌, refl, sym, ap, ap₂, ◌∙◌}
 use mathlib.Core.Bool.{Bool, true, false, true≢false}
 use mathlib.Core.List.{List, [], ◌∷◌, ◌++◌}
-use mathlib.Core.Option.{Option, some, none}
+use Rattle.std.proofs.Common.{Option, Some, None}
 use Prim.Native.Nat.{ℕ, suc}
 use native.Mathlib.Omega.{arith}
 use lib.ListN.{length, drop}
 use borrow.Author.Tests.{eq-eqb, ne_eqb}
 use Rattle.octets.specs.Pick.{pick}
-use Rattle.octets.specs.Maybe.{or_else}
+use Rattle.std.specs.Option.{option_or}
 use Rattle.octets.specs.Compare.{same}
 use Rattle.octets.proofs.Laws.{same_true}
 use Rattle.keys.specs.Entries.{Entry, lookup, is_map}
@@ -37,19 +37,19 @@ same_over a k (b ∷ x) h = rw (ne_eqb a b (λ e. omega arith))
 lookup_under : (l k : List ℕ) (es : List Entry) → lookup (l ++ k) (under l es) ≡ lookup k es
 unfolding lookup
 lookup_under l k [] = refl
-lookup_under l k (e ∷ es) = ap₂ (λ (t : Bool) (o : Option ℕ). pick t (some e.value) o) (same_under l k e.key) (lookup_under l k es)
+lookup_under l k (e ∷ es) = ap₂ (λ (t : Bool) (o : Option ℕ). pick t (Some e.value) o) (same_under l k e.key) (lookup_under l k es)
 
 -- the value at a node, and those below it
 lookup_remainders : (v : Option ℕ) (es : List Entry) → From 0 es → (k : List ℕ) → lookup k (own_entry [] v ++ es) ≡ reached k v (lookup k es)
 unfolding lookup same
-lookup_remainders none es f [] = lookup_none [] es (keys_map (StartsAt 0) (λ (x : List ℕ). same [] x ≡ false) go es f)
+lookup_remainders None es f [] = lookup_none [] es (keys_map (StartsAt 0) (λ (x : List ℕ). same [] x ≡ false) go es f)
   where
     go : (x : List ℕ) → StartsAt 0 x → same [] x ≡ false
     go [] h = absurd h
     go (b ∷ x) h = refl
-lookup_remainders (some v) es f [] = refl
-lookup_remainders none es f (b ∷ k) = refl
-lookup_remainders (some v) es f (b ∷ k) = refl
+lookup_remainders (Some v) es f [] = refl
+lookup_remainders None es f (b ∷ k) = refl
+lookup_remainders (Some v) es f (b ∷ k) = refl
 
 -- by the label
 module _ (a : ℕ) (l k : List ℕ) (xs ys : List Entry) where
@@ -58,13 +58,13 @@ module _ (a : ℕ) (l k : List ℕ) (xs ys : List Entry) where
       let r = drop (length (a ∷ l)) k in
       ap (λ (z : List ℕ). lookup z (under (a ∷ l) xs ++ ys)) (starts_split (a ∷ l) k h)
       ∙ lookup_append (a ∷ l ++ r) (under (a ∷ l) xs) ys
-      ∙ ap₂ or_else (lookup_under (a ∷ l) r xs) (lookup_none (a ∷ l ++ r) ys (keys_map (StartsAt (suc a)) (λ (x : List ℕ). same (a ∷ l ++ r) x ≡ false) (same_over a (l ++ r)) ys f))
+      ∙ ap₂ option_or (lookup_under (a ∷ l) r xs) (lookup_none (a ∷ l ++ r) ys (keys_map (StartsAt (suc a)) (λ (x : List ℕ). same (a ∷ l ++ r) x ≡ false) (same_over a (l ++ r)) ys f))
       ∙ or_none_lem (lookup r xs)
 
   lookup_past : starts_with (a ∷ l) k ≡ false → lookup k (under (a ∷ l) xs ++ ys) ≡ lookup k ys
   lookup_past h =
       lookup_append k (under (a ∷ l) xs) ys
-      ∙ ap (λ (o : Option ℕ). or_else o (lookup k ys))
+      ∙ ap (λ (o : Option ℕ). option_or o (lookup k ys))
       (lookup_none k (under (a ∷ l) xs) (keys_below (λ (x : List ℕ). same k x ≡ false) (a ∷ l) (λ x. same_not (a ∷ l) k x h) xs))
 
 find_node : (a : ℕ) (l : List ℕ) (v : Option ℕ) (below later : Shape) → From 0 (entries_below [] below) → From (suc a) (entries_below [] later)

@@ -1,7 +1,7 @@
 -- The marks of a walk, one node at a time. Assumes nothing.
 use mathlib.Core.Path.{◌≡◌, ap₂, ◌∙◌}
 use mathlib.Core.List.{List}
-use mathlib.Core.Option.{some}
+use Rattle.std.proofs.Common.{Some}
 use Prim.Native.Nat.{ℕ, zero, suc, ◌-◌, ◌≤◌, ◌<◌}
 use native.Mathlib.Omega.{arith}
 use borrow.Author.Tests.{lt-ltb}
@@ -10,7 +10,7 @@ use Rattle.octets.specs.Maybe.{◌>>=◌}
 use Rattle.radix.specs.Record.{marks_from}
 
 module _ (child next : List ℕ) where
-  pub mark_none : (most link : ℕ) (m : List ℕ) → link ≡ 0 → marks_from most child next link m ≡ some m
+  pub mark_none : (most link : ℕ) (m : List ℕ) → link ≡ 0 → marks_from most child next link m ≡ Some m
   unfolding marks_from
   mark_none zero link m e = rw e
   mark_none (suc most) link m e = rw e

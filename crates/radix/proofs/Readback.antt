@@ -2,7 +2,7 @@
 use mathlib.Core.Bool.{true}
 use mathlib.Core.Path.{◌≡◌, refl, sym, ap, ap₂, ◌∙◌, subst}
 use mathlib.Core.List.{List}
-use mathlib.Core.Option.{Option, some, none}
+use Rattle.std.proofs.Common.{Option, Some, None}
 use Prim.Native.Nat.{ℕ, zero, suc, ◌+◌, ◌*◌, ◌-◌, ◌≤◌, ◌<◌, min}
 use native.Mathlib.Nat.{zero-add, suc-add}
 use native.Mathlib.Omega.{arith}
@@ -37,15 +37,15 @@ module _ {x : Nodes} {p : ℕ} {l : List ℕ} {v : Option ℕ} {c n : ℕ} (a : 
       ∙ take_at l (drop (length l) (zeros 16)) (length l) refl
 
   pub value_read : value_of x p ≡ v
-  value_read = ap₂ (λ (k w : ℕ). pick (eqb k 0) none (some w)) a.key a.val ∙ go v
+  value_read = ap₂ (λ (k w : ℕ). pick (eqb k 0) None (Some w)) a.key a.val ∙ go v
     where
-      go : (o : Option ℕ) → pick (eqb (flag_of o) 0) none (some (value_or0 o)) ≡ o
-      go none = refl
-      go (some w) = refl
+      go : (o : Option ℕ) → pick (eqb (flag_of o) 0) None (Some (value_or0 o)) ≡ o
+      go None = refl
+      go (Some w) = refl
 
   flag_good : (o : Option ℕ) → is_flag (flag_of o) (value_or0 o) ≡ true
-  flag_good none = refl
-  flag_good (some w) = refl
+  flag_good None = refl
+  flag_good (Some w) = refl
 
   zero_drop : (k m : ℕ) → k + m ≡ 16 → drop k (zeros 16) ≡ zeros m
   zero_drop k m e = ap (λ (j : ℕ). drop k (zeros j)) (sym e) ∙ go k
@@ -83,7 +83,7 @@ stands_tree (node l v below later) n f x h g m k =
 -- the marks
 record Marked (x : Nodes) (n k f link : ℕ) (m : List ℕ) : Type 0 where
   out : List ℕ
-  walk : marks_from f x.child x.next link m ≡ some out
+  walk : marks_from f x.child x.next link m ≡ Some out
   long : length out ≡ 256
   inside : (q : ℕ) → n ≤ q → q < n + k → get_or out q 0 ≡ 1
   outside : (q : ℕ) → (n ≤ q → q < n + k → ⊥) → get_or out q 0 ≡ get_or m q 0
@@ -122,7 +122,7 @@ stands_marks (node u v below later) n f x m h g k l z =
     stands_marks below j (f - 1) x m1 h.1.0 (omega arith) (omega arith) l1 (λ q r t. get_or-set_other m p q 1 0 (omega arith) ∙ z q (omega arith) (omega arith)) in
     let o1 : (q : ℕ) → q < j → get_or b.out q 0 ≡ get_or m q 0 = λ q r. b.outside q (λ t w. omega arith) ∙ get_or-set_other m p q 1 0 (omega arith) in
     let c = stands_marks later n (f - 1) x b.out h.1.1 (omega arith) (omega arith) b.long (λ q r t. o1 q t ∙ z q r (omega arith)) in
-    let w : marks_from f x.child x.next i m ≡ some c.out =
+    let w : marks_from f x.child x.next i m ≡ Some c.out =
     mark_step x.child x.next f i m (omega arith) g (omega arith) (ap (λ (q : ℕ). get_or m q 0) e ∙ z p (omega arith) (omega arith))
     ∙ ap (λ (q : ℕ). marks_from (f - 1) x.child x.next (get_or x.child q 0) (set m q 1) >>= marks_from (f - 1) x.child x.next (get_or x.next q 0)) e
     ∙ ap₂ (λ (r t : ℕ). marks_from (f - 1) x.child x.next r m1 >>= marks_from (f - 1) x.child x.next t) a.child a.next
@@ -218,7 +218,7 @@ module _ (s : Shape) (l : Labels s) (h : 1 + nodes s ≤ 256) where
       stands_marks s 1 256 all start there h (omega arith) (length-set (zeros 256) 0 1 ∙ length-replicate {A = ℕ} 256 0)
       (λ q i j. get_or-set_other (zeros 256) 0 q 1 0 (omega arith) ∙ get_or-replicate 256 q 0 0 (omega arith))
 
-  marks : marks_of (place_shape s) ≡ some marked.out
+  marks : marks_of (place_shape s) ≡ Some marked.out
   unfolding all place_shape start
   marks = ap (λ (i : ℕ). marks_from 256 all.child all.next i start) link ∙ marked.walk
 

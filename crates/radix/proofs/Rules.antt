@@ -2,7 +2,7 @@
 use mathlib.Core.Path.{◌≡◌, refl, sym, ap, ap₂, ◌∙◌}
 use mathlib.Core.Bool.{Bool, true, false, true≢false}
 use mathlib.Core.List.{List, [], ◌∷◌, ◌++◌}
-use mathlib.Core.Option.{Option, some, none}
+use Rattle.std.proofs.Common.{Option, Some, None}
 use Prim.Native.Nat.{ℕ, suc, ◌+◌, ◌≤◌}
 use native.Mathlib.Omega.{arith}
 use native.Mathlib.Numerals.{add-one}
@@ -100,57 +100,57 @@ rules_rising (one_of {a = a} {v = v} {below = below} {later = later} n h e b m) 
     (rising_own v (entries_below [] below) (canonical_from b) (rules_rising b)))
 
 -- every node has a key at it or below it
-abbrev pub Some : List Entry → Type 0
-Some [] = ⊥
-Some (e ∷ es) = Unit {0}
+abbrev pub NotEmpty : List Entry → Type 0
+NotEmpty [] = ⊥
+NotEmpty (e ∷ es) = Unit {0}
 
-pub some_left : (xs ys : List Entry) → Some xs → Some (xs ++ ys)
+pub some_left : (xs ys : List Entry) → NotEmpty xs → NotEmpty (xs ++ ys)
 some_left [] ys h = absurd h
 some_left (x ∷ xs) ys h = tt
 
-pub some_under : (l : List ℕ) (es : List Entry) → Some es → Some (under l es)
+pub some_under : (l : List ℕ) (es : List Entry) → NotEmpty es → NotEmpty (under l es)
 some_under l [] h = h
 some_under l (e ∷ es) h = tt
 
-pub some_length : (es : List Entry) → Some es → 1 ≤ length es
+pub some_length : (es : List Entry) → NotEmpty es → 1 ≤ length es
 some_length [] h = absurd h
 some_length (e ∷ es) h = omega arith
 
-pub length_some : (es : List Entry) → 1 ≤ length es → Some es
+pub length_some : (es : List Entry) → 1 ≤ length es → NotEmpty es
 length_some [] h = absurd (omega arith)
 length_some (e ∷ es) h = tt
 
-pub prefix_some : (l : List ℕ) (es : List Entry) → Some es → prefix_of (under l es) ≡ l ++ prefix_of es
+pub prefix_some : (l : List ℕ) (es : List Entry) → NotEmpty es → prefix_of (under l es) ≡ l ++ prefix_of es
 prefix_some l [] h = absurd h
 prefix_some l (e ∷ es) h = prefix_under l e es
 
-held_some : (v : Option ℕ) (below : Shape) → is_held v below ≡ true → (is_nil below ≡ false → Some (entries_below [] below)) → Some (remainders v below)
-held_some (some v) below h k = tt
-held_some none nil h k = absurd (true≢false (sym h))
-held_some none (node l v below later) h k = k refl
+held_some : (v : Option ℕ) (below : Shape) → is_held v below ≡ true → (is_nil below ≡ false → NotEmpty (entries_below [] below)) → NotEmpty (remainders v below)
+held_some (Some v) below h k = tt
+held_some None nil h k = absurd (true≢false (sym h))
+held_some None (node l v below later) h k = k refl
 
 pub end_held : (v : Option ℕ) (below : Shape) → is_end v below ≡ true → is_held v below ≡ true
-end_held (some v) below h = refl
-end_held none nil h = h
-end_held none (node l v below later) h = refl
+end_held (Some v) below h = refl
+end_held None nil h = h
+end_held None (node l v below later) h = refl
 
-some_node : (l : List ℕ) (v : Option ℕ) (below later : Shape) → Some (remainders v below) → Some (entries_below [] (node l v below later))
+some_node : (l : List ℕ) (v : Option ℕ) (below later : Shape) → NotEmpty (remainders v below) → NotEmpty (entries_below [] (node l v below later))
 some_node l v below later h =
     rw (entries_node [] l v below later) (some_left (under l (remainders v below)) (entries_below [] later) (some_under l (remainders v below) h))
 
-pub rules_some : {first : Bool} {least : ℕ} {s : Shape} → Rules first least s → is_nil s ≡ false → Some (entries_below [] s)
+pub rules_some : {first : Bool} {least : ℕ} {s : Shape} → Rules first least s → is_nil s ≡ false → NotEmpty (entries_below [] s)
 rules_some leaf h = absurd (true≢false h)
 rules_some (only {a = a} {l = l} {v = v} {below = below} e b) h =
     some_node (a ∷ l) v below nil (held_some v below (end_held v below e) (rules_some b))
 rules_some (one_of {a = a} {v = v} {below = below} {later = later} n k e b m) h =
     some_node (a ∷ []) v below later (held_some v below e (rules_some b))
 
-pub held_entries : (v : Option ℕ) {below : Shape} → is_held v below ≡ true → Rules true 0 below → Some (remainders v below)
+pub held_entries : (v : Option ℕ) {below : Shape} → is_held v below ≡ true → Rules true 0 below → NotEmpty (remainders v below)
 held_entries v {below} h b = held_some v below h (rules_some b)
 
 -- the other way round
-pub some_held : (v : Option ℕ) (below : Shape) → Some (remainders v below) → is_held v below ≡ true
+pub some_held : (v : Option ℕ) (below : Shape) → NotEmpty (remainders v below) → is_held v below ≡ true
 unfolding entries_below
-some_held (some v) below h = refl
-some_held none nil h = absurd h
-some_held none (node l v below later) h = refl
+some_held (Some v) below h = refl
+some_held None nil h = absurd h
+some_held None (node l v below later) h = refl

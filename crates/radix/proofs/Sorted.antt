@@ -2,7 +2,7 @@
 use mathlib.Core.Path.{◌≡◌, refl, sym, ap, ap₂, ◌∙◌, subst}
 use mathlib.Core.Bool.{Bool, true, false, true≢false}
 use mathlib.Core.List.{List, [], ◌∷◌, ◌++◌}
-use mathlib.Core.Option.{Option, some, none}
+use Rattle.std.proofs.Common.{Option, Some, None}
 use Prim.Native.Nat.{ℕ, suc, ◌≤◌, ◌<◌}
 use native.Mathlib.Omega.{arith}
 use lib.Dec.{eqb}
@@ -127,8 +127,8 @@ empty_before n (b ∷ k) h = refl
 
 pub rising_own : (v : Option ℕ) (es : List Entry) → From 0 es → rising es ≡ true → rising (own_entry [] v ++ es) ≡ true
 unfolding rising
-rising_own none es f r = r
-rising_own (some v) es f r = above_rising [] es (keys_map (StartsAt 0) (λ (x : List ℕ). comes_before [] x ≡ true) (empty_before 0) es f) r
+rising_own None es f r = r
+rising_own (Some v) es f r = above_rising [] es (keys_map (StartsAt 0) (λ (x : List ℕ). comes_before [] x ≡ true) (empty_before 0) es f) r
 
 -- entries of one first byte, then rising ones of larger first bytes
 module _ (a : ℕ) (l : List ℕ) (ys : List Entry) (r : rising ys ≡ true) (f : From (suc a) ys) where

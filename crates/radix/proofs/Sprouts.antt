@@ -16,7 +16,7 @@ use Rattle.radix.proofs.Under.{under, remainders, entries_node, prefix_cut, leng
 use Rattle.radix.proofs.Keys.{StartsAt, From, short_under}
 use Rattle.keys.proofs.Laws.{Short, keys_left, keys_right, rising_right, map_rising, map_length, map_fit}
 use Rattle.radix.proofs.Fits.{fit_from, fit_short}
-use Rattle.radix.proofs.Rules.{leaf, only, one_of, Some, some_held, rules_canonical, length_some}
+use Rattle.radix.proofs.Rules.{leaf, only, one_of, NotEmpty, some_held, rules_canonical, length_some}
 use Rattle.radix.proofs.Back.{Good, prefix_end, past_prefix}
 use Rattle.radix.proofs.Unique.{shape_of_canonical}
 use Rattle.radix.proofs.Branches.{Grouped, grouped, group_take, group_drop, group_sum, group_some, Branch, by_byte, by_prefix, branch_rest, branch_label, own_after, after_from, after_rising, after_short, after_length, none_left}
@@ -30,8 +30,8 @@ module _ (go : Bool → List Entry → Shape) {first : Bool} {es : List Entry} (
   remains : remainders (own_first w.rest) (go true (after_own w.rest)) ≡ w.rest
   remains = ap (λ (z : List Entry). own_entry [] (own_first w.rest) ++ z) below.back ∙ own_after w.rest
 
-  held : Some (remainders (own_first w.rest) (go true (after_own w.rest)))
-  held = subst⁻¹ Some remains w.held
+  held : NotEmpty (remainders (own_first w.rest) (go true (after_own w.rest)))
+  held = subst⁻¹ NotEmpty remains w.held
 
   all : entries_below [] (go false g.later) ≡ g.later → entries_below [] (node w.label (own_first w.rest) (go true (after_own w.rest)) (go false g.later)) ≡ es
   all e =
@@ -73,7 +73,7 @@ run_good go es g r e p a q n below =
           ∙ all go g w below (ap (entries_below []) n ∙ sym m);
     })
 
-sprout_some : (f : ℕ) (first : Bool) (es : List Entry) → 0 < f → Some es → is_nil (sprout f first es) ≡ false
+sprout_some : (f : ℕ) (first : Bool) (es : List Entry) → 0 < f → NotEmpty es → is_nil (sprout f first es) ≡ false
 unfolding sprout
 sprout_some zero first es h s = absurd (omega arith)
 sprout_some (suc f) first [] h s = absurd s
@@ -84,11 +84,11 @@ unfolding sprout
 sprout_none zero first es e = refl
 sprout_none (suc f) first es e = rw e
 
-first_least : (n b : ℕ) (xs rest : List Entry) → Some xs → From n (under (b ∷ []) xs ++ rest) → n ≤ b
+first_least : (n b : ℕ) (xs rest : List Entry) → NotEmpty xs → From n (under (b ∷ []) xs ++ rest) → n ≤ b
 first_least n b [] rest s h = absurd s
 first_least n b (x ∷ xs) rest s h = h.0
 
-short_rest : (s : ℕ) (l : List ℕ) (xs : List Entry) → 1 ≤ length l → Some xs → Short s (under l xs) → (1 ≤ s) × Short (s - 1) xs
+short_rest : (s : ℕ) (l : List ℕ) (xs : List Entry) → 1 ≤ length l → NotEmpty xs → Short s (under l xs) → (1 ≤ s) × Short (s - 1) xs
 short_rest s [] xs n h k = absurd (omega arith)
 short_rest s (a ∷ l) [] n h k = absurd h
 short_rest s (a ∷ l) (x ∷ xs) n h k =

@@ -2,7 +2,7 @@
 use mathlib.Core.Bool.{Bool, true, false, not, false≢true}
 use mathlib.Core.Path.{◌≡◌, refl, sym, ap, ap₂, ◌∙◌}
 use mathlib.Core.List.{List, [], ◌∷◌, ◌++◌}
-use mathlib.Core.Option.{Option, none}
+use Rattle.std.proofs.Common.{Option, None}
 use Prim.Native.Nat.{ℕ, zero, suc, ◌+◌, ◌*◌, ◌-◌, ◌≤◌, ◌<◌}
 use native.Mathlib.Omega.{arith}
 use borrow.Author.Tests.{eq-eqb, ne_eqb, lt-ltb, le-ltb, le-leb, ltb-true, leb-true, leb-false}
@@ -129,7 +129,7 @@ nil_leads x most link true e = let h = leads_to most link e in ap is_nil (tree_n
 nil_leads x most link false e = ap is_nil (tree_not x most link e)
 
 -- a key at the node that a link leads to
-pub find_none : {s : Shape} (k : List ℕ) → s ≡ nil → find_in s k ≡ none
+pub find_none : {s : Shape} (k : List ℕ) → s ≡ nil → find_in s k ≡ None
 unfolding find_in
 find_none k e = rw e
 

@@ -2,7 +2,7 @@
 use mathlib.Core.Path.{◌≡◌, refl, sym, ap, ap₂, ◌∙◌}
 use mathlib.Core.Bool.{Bool, true, false}
 use mathlib.Core.List.{List, [], ◌∷◌, ◌++◌, append_assoc, append-nil}
-use mathlib.Core.Option.{Option, some, none}
+use Rattle.std.proofs.Common.{Option, Some, None}
 use Prim.Native.Nat.{ℕ, suc}
 use lib.Dec.{eqb}
 use lib.ListN.{length}
@@ -33,8 +33,8 @@ length_under l [] = refl
 length_under l (e ∷ es) = ap suc (length_under l es)
 
 pub under_own : (l k : List ℕ) (v : Option ℕ) → own_entry (l ++ k) v ≡ under l (own_entry k v)
-under_own l k none = refl
-under_own l k (some v) = refl
+under_own l k None = refl
+under_own l k (Some v) = refl
 
 pub entries_under : (a b : List ℕ) (s : Shape) → entries_below (a ++ b) s ≡ under a (entries_below b s)
 unfolding entries_below

@@ -2,7 +2,7 @@
 use mathlib.Core.Path.{◌≡◌, refl, sym, ap, ◌∙◌, subst}
 use mathlib.Core.Bool.{Bool, true, false, not, true≢false}
 use mathlib.Core.List.{List, [], ◌∷◌, ◌++◌, append-nil, cons≢nil}
-use mathlib.Core.Option.{Option, some, none}
+use Rattle.std.proofs.Common.{Option, Some, None}
 use Prim.Native.Nat.{ℕ, suc, ◌≤◌, ◌<◌}
 use native.Mathlib.Omega.{arith}
 use lib.ListN.{length}
@@ -16,18 +16,18 @@ use Rattle.keys.proofs.Laws.{Keys, Short, keys_right, is_map_lem}
 use Rattle.radix.proofs.Keys.{From, StartsAt, keys_below, longer_from, own_from_lem, starting_none, others_all}
 use Rattle.radix.proofs.Fits.{fit_short}
 use Rattle.radix.proofs.Back.{children_good}
-use Rattle.radix.proofs.Rules.{Rules, leaf, only, one_of, Some, canonical_rules, canonical_from, rules_from, rules_rising, rules_some, end_held, held_entries, prefix_some}
+use Rattle.radix.proofs.Rules.{Rules, leaf, only, one_of, NotEmpty, canonical_rules, canonical_from, rules_from, rules_rising, rules_some, end_held, held_entries, prefix_some}
 
 -- the remainders at a node, taken apart again
 longer_own : (v : Option ℕ) (es : List Entry) → From 0 es → longer (own_entry [] v ++ es) ≡ es
 unfolding longer
-longer_own none es f = longer_from 0 es f
-longer_own (some v) es f = longer_from 0 es f
+longer_own None es f = longer_from 0 es f
+longer_own (Some v) es f = longer_from 0 es f
 
 own_own : (v : Option ℕ) (es : List Entry) → From 0 es → own (own_entry [] v ++ es) ≡ v
 unfolding own
-own_own none es f = own_from_lem 0 es f
-own_own (some v) es f = refl
+own_own None es f = own_from_lem 0 es f
+own_own (Some v) es f = refl
 
 first_over : (a c : ℕ) (k : List ℕ) → StartsAt (suc a) k → first_byte k ≡ c → a < c
 first_over a c [] h e = absurd h
@@ -45,13 +45,13 @@ module _ (a : ℕ) (rest : List Entry) (f : From (suc a) rest) where
   others_under (x ∷ xs) = rw (eq-eqb a a refl) (others_under xs)
 
   -- two first bytes: no common prefix
-  parted_prefix : (xs : List Entry) → Some xs → Some rest → prefix_of (under (a ∷ []) xs ++ rest) ≡ []
+  parted_prefix : (xs : List Entry) → NotEmpty xs → NotEmpty rest → prefix_of (under (a ∷ []) xs ++ rest) ≡ []
   parted_prefix [] h k = absurd h
   parted_prefix (x ∷ xs) h k =
       let zs = under (a ∷ []) (x ∷ xs) ++ rest in
       go (prefix_of zs) (cut (length (prefix_of zs)) zs) (prefix_cut zs)
     where
-      over : (c : ℕ) (rs : List Entry) → Some rs → From (suc a) rs → Keys (λ (y : List ℕ). first_byte y ≡ c) rs → a < c
+      over : (c : ℕ) (rs : List Entry) → NotEmpty rs → From (suc a) rs → Keys (λ (y : List ℕ). first_byte y ≡ c) rs → a < c
       over c [] h f g = absurd h
       over c (r ∷ rs) h f g = first_over a c r.key f.0 g.0
 
@@ -64,14 +64,14 @@ module _ (a : ℕ) (rest : List Entry) (f : From (suc a) rest) where
 -- an only child's label is the longest common prefix
 end_prefix : (v : Option ℕ) {below : Shape} → is_end v below ≡ true → Rules true 0 below → prefix_of (remainders v below) ≡ []
 unfolding prefix_of common
-end_prefix (some v) {below} h r = go (entries_below [] below)
+end_prefix (Some v) {below} h r = go (entries_below [] below)
   where
     go : (es : List Entry) → prefix_of (entry [] v ∷ es) ≡ []
     go [] = refl
     go (e ∷ es) = refl
-end_prefix none h leaf = absurd (true≢false (sym h))
-end_prefix none h (only e b) = absurd (true≢false (sym h))
-end_prefix none h (one_of {a = a} {v = v} {below = below} {later = later} n k e b m) =
+end_prefix None h leaf = absurd (true≢false (sym h))
+end_prefix None h (only e b) = absurd (true≢false (sym h))
+end_prefix None h (one_of {a = a} {v = v} {below = below} {later = later} n k e b m) =
     ap prefix_of (entries_node [] (a ∷ []) v below later)
     ∙ parted_prefix a (entries_below [] later) (rules_from m) (remainders v below) (held_entries v e b) (rules_some m n)
 
@@ -89,7 +89,7 @@ rules_prefix (only {a = a} {l = l} {v = v} {below = below} e b) =
     ∙ ap (λ (z : List ℕ). a ∷ l ++ z) (end_prefix v e b)
     ∙ append-nil (a ∷ l)
 rules_prefix (one_of {a = a} {v = v} {below = below} {later = later} n h e b m) =
-    end_prefix none (ap not n) (one_of {least = 0} {a = a} {v = v} n (omega arith) e b m) ∙ sym (ap (λ (t : Bool). pick t (a ∷ []) []) n)
+    end_prefix None (ap not n) (one_of {least = 0} {a = a} {v = v} n (omega arith) e b m) ∙ sym (ap (λ (t : Bool). pick t (a ∷ []) []) n)
 
 -- the parts of equal remainders, and of equal siblings, are equal
 module _ (v w : Option ℕ) (below below' : Shape) (b : Rules true 0 below) (b' : Rules true 0 below') (q : remainders v below ≡ remainders w below') where
@@ -109,11 +109,11 @@ Alone first s = (least : ℕ) (t : Shape) → Rules first least t → entries_be
 alone_leaf : (first : Bool) → Alone first nil
 unfolding entries_below
 alone_leaf first least nil r q = refl
-alone_leaf first least (node l v below later) r q = absurd (subst Some (sym q) (rules_some r refl))
+alone_leaf first least (node l v below later) r q = absurd (subst NotEmpty (sym q) (rules_some r refl))
 
 not_leaf : {first : Bool} {least : ℕ} {s : Shape} → Rules first least s → is_nil s ≡ false → entries_below [] s ≡ entries_below [] nil → ⊥
 unfolding entries_below
-not_leaf r n q = subst Some q (rules_some r n)
+not_leaf r n q = subst NotEmpty q (rules_some r n)
 
 -- several children are no only child
 run_apart : {m n a c : ℕ} {l : List ℕ} {v w : Option ℕ} {below below' later : Shape}
@@ -152,7 +152,7 @@ head_byte : List Entry → ℕ
 head_byte [] = 0
 head_byte (e ∷ es) = first_byte e.key
 
-head_under : (a : ℕ) (xs ys : List Entry) → Some xs → head_byte (under (a ∷ []) xs ++ ys) ≡ a
+head_under : (a : ℕ) (xs ys : List Entry) → NotEmpty xs → head_byte (under (a ∷ []) xs ++ ys) ≡ a
 unfolding head_byte
 head_under a [] ys h = absurd h
 head_under a (x ∷ xs) ys h = refl

@@ -2,7 +2,7 @@
 use mathlib.Core.Bool.{Bool, true, false, true≢false}
 use mathlib.Core.Path.{◌≡◌, refl, sym, ap, ap₂, ◌∙◌, subst, subst⁻¹}
 use mathlib.Core.List.{List, [], ◌∷◌, ◌++◌, append_assoc, append-nil}
-use mathlib.Core.Option.{Option, some, none}
+use Rattle.std.proofs.Common.{Option, Some, None}
 use Prim.Native.Nat.{ℕ, suc, ◌+◌, ◌≤◌, ◌<◌, ◌^◌}
 use native.Mathlib.Omega.{arith}
 use borrow.Author.Tests.{eq-eqb, eqb-true, lt-ltb, le-leb, ltb-true, leb-true}
@@ -21,15 +21,15 @@ use Rattle.radix.proofs.Under.{under, remainders, remainders_under}
 use Rattle.radix.proofs.Keys.{StartsAt, From}
 use Rattle.keys.proofs.Laws.{Short, keys_append, keys_left, keys_right, is_map_lem, map_length, map_fit}
 use Rattle.radix.proofs.Fits.{fit_short}
-use Rattle.radix.proofs.Rules.{Rules, leaf, only, one_of, Some, end_held, held_entries, canonical_rules}
+use Rattle.radix.proofs.Rules.{Rules, leaf, only, one_of, NotEmpty, end_held, held_entries, canonical_rules}
 use Rattle.radix.proofs.Unique.{canonical_rising, canonical_keys, shape_of_fitting}
 use Rattle.radix.proofs.Back.{shape_back, shape_rules, shape_canonical}
 
 -- the same shape
 value_refl : (v : Option ℕ) → same_value v v ≡ true
 unfolding same_value
-value_refl none = refl
-value_refl (some v) = eq-eqb v v refl
+value_refl None = refl
+value_refl (Some v) = eq-eqb v v refl
 
 pub shape_refl : (s : Shape) → same_shape s s ≡ true
 unfolding same_shape
@@ -38,10 +38,10 @@ shape_refl (node l v b t) = rw (same_refl l, value_refl v, shape_refl b, shape_r
 
 value_true : (v w : Option ℕ) → same_value v w ≡ true → v ≡ w
 unfolding same_value
-value_true none none e = refl
-value_true none (some w) e = absurd (true≢false (sym e))
-value_true (some v) none e = absurd (true≢false (sym e))
-value_true (some v) (some w) e = ap some (eqb-true v w e)
+value_true None None e = refl
+value_true None (Some w) e = absurd (true≢false (sym e))
+value_true (Some v) None e = absurd (true≢false (sym e))
+value_true (Some v) (Some w) e = ap Some (eqb-true v w e)
 
 pub shape_true : (s t : Shape) → same_shape s t ≡ true → s ≡ t
 unfolding same_shape
@@ -56,13 +56,13 @@ shape_true (node l v b t) (node m w c u) e =
     ∙ ap₂ (λ (x y : Shape). node m w x y) (shape_true b c r.0) (shape_true t u r.1)
 
 -- an answer that is there
-pub need_some : {A : Type 0} (t : Bool) (o : Option A) {r : A} → (need t >> o) ≡ some r → (t ≡ true) × (o ≡ some r)
+pub need_some : {A : Type 0} (t : Bool) (o : Option A) {r : A} → (need t >> o) ≡ Some r → (t ≡ true) × (o ≡ Some r)
 need_some true o e = (refl, e)
 need_some false o e = absurd (let z : ◌≡◌ {A = ℕ} 0 1 = cc in omega arith)
 
-pub bind_some : {A B : Type 0} (o : Option A) (f : A → Option B) {r : B} → (o >>= f) ≡ some r → (a : A) × (o ≡ some a) × (f a ≡ some r)
-bind_some none f e = absurd (let z : ◌≡◌ {A = ℕ} 0 1 = cc in omega arith)
-bind_some (some a) f e = (a, refl, e)
+pub bind_some : {A B : Type 0} (o : Option A) (f : A → Option B) {r : B} → (o >>= f) ≡ Some r → (a : A) × (o ≡ Some a) × (f a ≡ Some r)
+bind_some None f e = absurd (let z : ◌≡◌ {A = ℕ} 0 1 = cc in omega arith)
+bind_some (Some a) f e = (a, refl, e)
 
 -- every value has 32 bits
 abbrev pub Vals : List Entry → Type 0
@@ -113,10 +113,10 @@ got_join {a} {b} {c} {x} {y} p q =
       room = λ h. q.room (p.room h);
     }
 
-some_is : {A : Type 0} {a b : A} → some a ≡ some b → b ≡ a
+some_is : {A : Type 0} {a b : A} → Some a ≡ Some b → b ≡ a
 some_is e = cc
 
-got_none : (old all : List Entry) → some old ≡ some all → Got old [] all
+got_none : (old all : List Entry) → Some old ≡ Some all → Got old [] all
 got_none old all e =
     record {
       sum = some_is e ∙ sym (append-nil old);
@@ -125,10 +125,10 @@ got_none old all e =
       room = λ r. subst (λ (l : List Entry). length l ≤ 64) (sym (some_is e)) r;
     }
 
-got_own : (k : List ℕ) (v : Option ℕ) (old all : List Entry) → length k ≤ 16 → with_own k v old ≡ some all → Got old (own_entry k v) all
-got_own k none old all h e = got_none old all e
-got_own k (some v) old all h e =
-    let p = need_some (both (ltb (length old) 64) (ltb v (2 ^ 32))) (some (old ++ (entry k v ∷ []))) e in
+got_own : (k : List ℕ) (v : Option ℕ) (old all : List Entry) → length k ≤ 16 → with_own k v old ≡ Some all → Got old (own_entry k v) all
+got_own k None old all h e = got_none old all e
+got_own k (Some v) old all h e =
+    let p = need_some (both (ltb (length old) 64) (ltb v (2 ^ 32))) (Some (old ++ (entry k v ∷ []))) e in
     let q = both_true (ltb (length old) 64) (ltb v (2 ^ 32)) p.0 in
     let s : all ≡ old ++ (entry k v ∷ []) = some_is p.1 in
     record {
@@ -138,7 +138,7 @@ got_own k (some v) old all h e =
       room = λ r. let m : length old < 64 = ltb-true (length old) 64 q.0 in omega (arith, ap length s, length-append old (entry k v ∷ []));
     }
 
-got_all : (before : List ℕ) (s : Shape) (old all : List Entry) → gathered before s old ≡ some all → Got old (entries_below before s) all
+got_all : (before : List ℕ) (s : Shape) (old all : List Entry) → gathered before s old ≡ Some all → Got old (entries_below before s) all
 unfolding gathered entries_below
 got_all before nil old all e = got_none old all e
 got_all before (node l v below later) old all e =
@@ -156,12 +156,12 @@ pub record Fits (before : List ℕ) (s : Shape) (old : List Entry) : Type 0 wher
   pub room : length old + length (entries_below before s) ≤ 64
 
 own_all : (k : List ℕ) (v : Option ℕ) (old : List Entry) → Vals (own_entry k v) → length old + length (own_entry k v) ≤ 64
-    → with_own k v old ≡ some (old ++ own_entry k v)
-own_all k none old h r = ap some (sym (append-nil old))
-own_all k (some v) old h r = let m : length old < 64 = omega arith in rw (lt-ltb (length old) 64 m, lt-ltb v (2 ^ 32) h.0)
+    → with_own k v old ≡ Some (old ++ own_entry k v)
+own_all k None old h r = ap Some (sym (append-nil old))
+own_all k (Some v) old h r = let m : length old < 64 = omega arith in rw (lt-ltb (length old) 64 m, lt-ltb v (2 ^ 32) h.0)
 
 -- a node with a key at it or below it lies no deeper than that key
-not_deep : (l : List ℕ) (es : List Entry) → Some es → Short 16 (under l es) → length l ≤ 16
+not_deep : (l : List ℕ) (es : List Entry) → NotEmpty es → Short 16 (under l es) → length l ≤ 16
 not_deep l [] s h = absurd s
 not_deep l (e ∷ es) s h = omega (arith, h.0, length-append l e.key)
 
@@ -191,7 +191,7 @@ module _ (before l : List ℕ) (v : Option ℕ) (below later : Shape) (old : Lis
   abbrev P : List ℕ → Type 0
   P k = length k ≤ 16
 
-  depth : Some (remainders v below) → length (before ++ l) ≤ 16
+  depth : NotEmpty (remainders v below) → length (before ++ l) ≤ 16
   unfolding own_part below_part later_part
   depth s =
       not_deep (before ++ l) (remainders v below) s
@@ -217,23 +217,23 @@ module _ (before l : List ℕ) (v : Option ℕ) (below later : Shape) (old : Lis
         room = omega (arith, sizes, length-append old own_part, length-append (old ++ own_part) below_part);
       }
 
-  node_all : Some (remainders v below)
-      → ((o : List Entry) → Fits (before ++ l) below o → gathered (before ++ l) below o ≡ some (o ++ entries_below (before ++ l) below))
-      → ((o : List Entry) → Fits before later o → gathered before later o ≡ some (o ++ entries_below before later))
-      → gathered before (node l v below later) old ≡ some (old ++ entries_below before (node l v below later))
+  node_all : NotEmpty (remainders v below)
+      → ((o : List Entry) → Fits (before ++ l) below o → gathered (before ++ l) below o ≡ Some (o ++ entries_below (before ++ l) below))
+      → ((o : List Entry) → Fits before later o → gathered before later o ≡ Some (o ++ entries_below before later))
+      → gathered before (node l v below later) old ≡ Some (old ++ entries_below before (node l v below later))
   unfolding gathered entries_below own_part below_part later_part
   node_all s b m =
       let d : length before + length l ≤ 16 = omega (arith, depth s, length-append before l) in
-      let w : with_own (before ++ l) v old ≡ some (old ++ own_part) = own_all (before ++ l) v old (vals_left own_part (below_part ++ later_part) vals_parts) (omega (arith, sizes)) in
+      let w : with_own (before ++ l) v old ≡ Some (old ++ own_part) = own_all (before ++ l) v old (vals_left own_part (below_part ++ later_part) vals_parts) (omega (arith, sizes)) in
       rw (le-leb (length before + length l) 16 d, w, b (old ++ own_part) below_fits, m ((old ++ own_part) ++ below_part) later_fits)
-      (ap some (append_assoc (old ++ own_part) below_part later_part ∙ append_assoc old own_part (below_part ++ later_part)))
+      (ap Some (append_assoc (old ++ own_part) below_part later_part ∙ append_assoc old own_part (below_part ++ later_part)))
 
 gather_all : {first : Bool} {least : ℕ} {s : Shape} → Rules first least s → (before : List ℕ) (old : List Entry) → Fits before s old
-    → gathered before s old ≡ some (old ++ entries_below before s)
+    → gathered before s old ≡ Some (old ++ entries_below before s)
 unfolding gathered entries_below
-gather_all leaf before old f = ap some (sym (append-nil old))
+gather_all leaf before old f = ap Some (sym (append-nil old))
 gather_all (only {a = a} {l = l} {v = v} {below = below} e b) before old f =
-    node_all before (a ∷ l) v below nil old f (held_entries v (end_held v below e) b) (gather_all b (before ++ (a ∷ l))) (λ o g. ap some (sym (append-nil o)))
+    node_all before (a ∷ l) v below nil old f (held_entries v (end_held v below e) b) (gather_all b (before ++ (a ∷ l))) (λ o g. ap Some (sym (append-nil o)))
 gather_all (one_of {a = a} {v = v} {below = below} {later = later} n k e b m) before old f =
     node_all before (a ∷ []) v below later old f (held_entries v e b) (gather_all b (before ++ (a ∷ []))) (gather_all m before)
 
@@ -242,16 +242,16 @@ module _ (t : Shape) where
   es : List Entry
   es = entries_below [] t
 
-  held : (r : List Entry) → canonical t ≡ true → gathered [] t [] ≡ some r → some r ≡ held_in t
+  held : (r : List Entry) → canonical t ≡ true → gathered [] t [] ≡ Some r → Some r ≡ held_in t
   unfolding es held_in
   held r c g =
       let o = got_all [] t [] r g in
       let n : length es ≤ 64 = omega (arith, o.room (omega arith), ap length o.sum) in
       let f : all_fit es ≡ true = fits_of es (canonical_keys t c) o.short o.vals in
       let s : same_shape t (shape es) ≡ true = ap (same_shape t) (shape_of_fitting t c f) ∙ shape_refl t in
-      rw (is_map_lem es n (canonical_rising t c) f, s) (ap some o.sum)
+      rw (is_map_lem es n (canonical_rising t c) f, s) (ap Some o.sum)
 
-  is_held : both (is_map es) (same_shape t (shape es)) ≡ true → (canonical t ≡ true) × (gathered [] t [] ≡ some es)
+  is_held : both (is_map es) (same_shape t (shape es)) ≡ true → (canonical t ≡ true) × (gathered [] t [] ≡ Some es)
   unfolding es
   is_held h =
       let p = both_true (is_map es) _ h in
@@ -260,11 +260,11 @@ module _ (t : Shape) where
       let f = map_fit es p.0 in
       (c, gather_all (canonical_rules t c) [] [] (record { short = fit_short es f; vals = fit_vals es f; room = omega (arith, map_length es p.0) }))
 
-  pub is_gathered : (r : List Entry) → canonical t ≡ true → gathered [] t [] ≡ some r → some r ≡ held_in t
+  pub is_gathered : (r : List Entry) → canonical t ≡ true → gathered [] t [] ≡ Some r → Some r ≡ held_in t
   is_gathered r c g = held r c g
 
 -- the entries of a map are gathered from their shape
-pub shape_gathered : (es : List Entry) → is_map es ≡ true → gathered [] (shape es) [] ≡ some es
+pub shape_gathered : (es : List Entry) → is_map es ≡ true → gathered [] (shape es) [] ≡ Some es
 shape_gathered es m =
     let f = map_fit es m in
     let b = shape_back es m in
@@ -273,16 +273,16 @@ shape_gathered es m =
       vals = subst⁻¹ Vals b (fit_vals es f);
       room = omega (arith, ap length b, map_length es m);
     })
-    ∙ ap some b
+    ∙ ap Some b
 
-pub shape_held : (es : List Entry) → is_map es ≡ true → held_in (shape es) ≡ some es
+pub shape_held : (es : List Entry) → is_map es ≡ true → held_in (shape es) ≡ Some es
 shape_held es m = sym (is_gathered (shape es) es (shape_canonical es m) (shape_gathered es m))
 
 -- what is held is a map, and the tree its shape
-pub held_map : (t : Shape) (es : List Entry) → held_in t ≡ some es → (is_map es ≡ true) × (t ≡ shape es)
+pub held_map : (t : Shape) (es : List Entry) → held_in t ≡ Some es → (is_map es ≡ true) × (t ≡ shape es)
 unfolding held_in
 held_map t es h =
-    let n = need_some (both (is_map (entries_below [] t)) (same_shape t (shape (entries_below [] t)))) (some (entries_below [] t)) h in
+    let n = need_some (both (is_map (entries_below [] t)) (same_shape t (shape (entries_below [] t)))) (Some (entries_below [] t)) h in
     let p = both_true (is_map (entries_below [] t)) _ n.0 in
     let e : es ≡ entries_below [] t = some_is n.1 in
     (ap is_map e ∙ p.0, shape_true t (shape (entries_below [] t)) p.1 ∙ ap shape (sym e))

@@ -3,10 +3,8 @@
 -- one child per first byte, rising."
 --
 -- The shapes that keep these rules are the shapes of the sets of keys: proofs/Back.antt and proofs/Unique.antt. Assumes nothing.
-use Rattle.std.specs.Prelude.{Bool, true, false, not, List, ℕ, ◌+◌, leb, eqb, length}
-use Rattle.std.proofs.Math.Option.{Option}
+use Rattle.std.specs.Prelude.{Bool, true, false, not, List, ℕ, ◌+◌, leb, eqb, length, is_none, Option}
 use Rattle.octets.specs.Pick.{pick, both}
-use Rattle.octets.specs.Maybe.{is_none}
 use Rattle.radix.specs.Shape.{Shape, nil, node, first_byte}
 
 abbrev pub is_nil : Shape → Bool

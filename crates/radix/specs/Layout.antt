@@ -1,7 +1,6 @@
 -- How a shape is laid into the pool: the later siblings of a node first, then what lies below it, then the node, each at the next free
 -- place. {foo: 7, foobar: 9}: bar at 1, foo at 2, and the root at 0 (the drawing of Record). Assumes nothing.
-use Rattle.std.specs.Prelude.{◌≡◌, refl, List, ℕ, ◌+◌, ◌*◌, length, set}
-use Rattle.std.proofs.Math.Option.{Option, some, none}
+use Rattle.std.specs.Prelude.{◌≡◌, refl, List, ℕ, ◌+◌, ◌*◌, length, set, Option, Some, None, unwrap_or}
 use Rattle.octets.specs.Bytes.{zeros}
 use Rattle.octets.specs.Place.{put}
 use Rattle.keys.specs.Entries.{Entry}
@@ -10,12 +9,11 @@ use Rattle.radix.specs.Record.{Nodes}
 use Rattle.radix.specs.declared.Index.{Index}
 
 abbrev pub flag_of : Option ℕ → ℕ
-flag_of none = 0
-flag_of (some v) = 1
+flag_of None = 0
+flag_of (Some v) = 1
 
 abbrev pub value_or0 : Option ℕ → ℕ
-value_or0 none = 0
-value_or0 (some v) = v
+value_or0 o = unwrap_or o 0
 
 -- the fields of place p written
 abbrev pub with_cell : Nodes → ℕ → List ℕ → ℕ → ℕ → ℕ → ℕ → Nodes
@@ -54,11 +52,6 @@ place_shape s =
       val = (laid s 1 blank).val;
       label = (laid s 1 blank).label;
     }
-
--- a record of a pool, its root at place 0
-abbrev pub rooted : Nodes → Index
-rooted x =
-    record { root = 0; len = x.len; key = x.key; child = x.child; next = x.next; val = x.val; label = x.label }
 
 -- the record that is made of entries
 pub record_of : List Entry → Index

@@ -17,8 +17,7 @@
 --     others   0    0    0     0     0
 --
 -- Assumes nothing.
-use Rattle.std.specs.Prelude.{Bool, true, false, ◌≡◌, refl, List, [], ℕ, zero, suc, ◌+◌, ◌*◌, ◌-◌, leb, ltb, eqb, get_or, set}
-use Rattle.std.proofs.Math.Option.{Option, some, none}
+use Rattle.std.specs.Prelude.{Bool, true, false, ◌≡◌, refl, List, [], ℕ, zero, suc, ◌+◌, ◌*◌, ◌-◌, leb, ltb, eqb, get_or, set, Option, Some, None}
 use Rattle.octets.specs.Pick.{pick, both}
 use Rattle.octets.specs.Maybe.{need, ◌>>◌, ◌>>=◌}
 use Rattle.octets.specs.Bytes.{zeros}
@@ -40,16 +39,11 @@ pub record Nodes : Type 0 where
 abbrev pub nodes_of : Index → Nodes
 nodes_of x = record { len = x.len; key = x.key; child = x.child; next = x.next; val = x.val; label = x.label }
 
--- a pool whose arrays are lent one by one
-abbrev pub lent : List ℕ → List ℕ → List ℕ → List ℕ → List ℕ → List ℕ → Nodes
-lent len key child next val label =
-    record { len = len; key = key; child = child; next = next; val = val; label = label }
-
 abbrev pub label_of : Nodes → ℕ → List ℕ
 label_of x p = area (16 * p) (length_of x.len p) x.label
 
 abbrev pub value_of : Nodes → ℕ → Option ℕ
-value_of x p = pick (eqb (get_or x.key p 0) 0) none (some (get_or x.val p 0))
+value_of x p = pick (eqb (get_or x.key p 0) 0) None (Some (get_or x.val p 0))
 
 -- the node that a link leads to, with its later siblings; a link that leaves the pool leads nowhere. `tree` goes on from there
 abbrev pub node_at : (ℕ → Shape) → Nodes → ℕ → Shape
@@ -69,13 +63,13 @@ leads_on most link = both (ltb 0 most) (both (ltb 0 link) (leb link 256))
 -- a mark at every place that a link leads to, and at those that are reached from there; `go` goes on. None where the link leaves the
 -- pool, or where a place has its mark already
 abbrev pub mark_at : (ℕ → List ℕ → Option (List ℕ)) → List ℕ → List ℕ → ℕ → List ℕ → Option (List ℕ)
-mark_at go child next zero marks = some marks
+mark_at go child next zero marks = Some marks
 mark_at go child next (suc p) marks =
     need (both (ltb p 256) (eqb (get_or marks p 0) 0)) >> (go (get_or child p 0) (set marks p 1) >>= go (get_or next p 0))
 
 -- none, too, where a path has more than `most` nodes
 unfoldable pub marks_from : ℕ → List ℕ → List ℕ → ℕ → List ℕ → Option (List ℕ)
-marks_from zero child next link marks = need (eqb link 0) >> some marks
+marks_from zero child next link marks = need (eqb link 0) >> Some marks
 marks_from (suc most) child next link marks = mark_at (marks_from most child next) child next link marks
 
 -- a free place: every field is zero
@@ -110,10 +104,10 @@ are_clean x marks p zero = true
 are_clean x marks p (suc n) = both (is_place x marks p) (are_clean x marks (p + 1) n)
 
 unfoldable pub same_value : Option ℕ → Option ℕ → Bool
-same_value none none = true
-same_value none (some w) = false
-same_value (some v) none = false
-same_value (some v) (some w) = eqb v w
+same_value None None = true
+same_value None (Some w) = false
+same_value (Some v) None = false
+same_value (Some v) (Some w) = eqb v w
 
 unfoldable pub same_shape : Shape → Shape → Bool
 same_shape nil nil = true
@@ -123,7 +117,7 @@ same_shape (node l v b t) (node m w c u) = both (both (same l m) (same_value v w
 
 -- the entries of a tree that is the shape of them
 unfoldable pub held_in : Shape → Option (List Entry)
-held_in t = need (both (is_map (entries_below [] t)) (same_shape t (shape (entries_below [] t)))) >> some (entries_below [] t)
+held_in t = need (both (is_map (entries_below [] t)) (same_shape t (shape (entries_below [] t)))) >> Some (entries_below [] t)
 
 -- the tree below the root
 abbrev pub tree_of : Index → Shape
@@ -134,8 +128,8 @@ abbrev pub marks_of : Index → Option (List ℕ)
 marks_of x = marks_from 256 x.child x.next (get_or x.child x.root 0) (set (zeros 256) x.root 1)
 
 abbrev pub are_fit : Index → Option (List ℕ) → Bool
-are_fit x none = false
-are_fit x (some marks) = both (is_root (nodes_of x) x.root) (are_clean (nodes_of x) marks 0 256)
+are_fit x None = false
+are_fit x (Some marks) = both (is_root (nodes_of x) x.root) (are_clean (nodes_of x) marks 0 256)
 
 -- no place is used twice, and all others are zero
 unfoldable pub is_placed : Index → Bool

@@ -21,12 +21,11 @@ abbrev pub rest_at : Columns → ℕ → ℕ → ℕ → List Entry
 rest_at t d a b = cut d (rows_from t a (b - a))
 
 -- rows to lay, from place `at` on: longer than d bytes, rising, with room in the pool
-pub record Ready (t : Columns) (left : ℕ) (first : Bool) (a b d at : ℕ) (label : List ℕ) : Type 0 where
+pub record Ready (t : Columns) (left : ℕ) (first : Bool) (a b d at : ℕ) : Type 0 where
   pub order : a ≤ b
   pub most : b ≤ 64
   pub deep : d ≤ 16
   pub keys : length t.key ≡ 1024
-  pub labels : length label ≡ 4096
   pub long : (i : ℕ) → a ≤ i → i < b → d < length_of t.len i
   pub rises : rising (rest_at t d a b) ≡ true
   pub room : at + nodes (sprout left first (rest_at t d a b)) ≤ 256

@@ -9,8 +9,7 @@
 --                                                  └─t─ o ─er─ *
 --
 -- Assumes nothing.
-use Rattle.std.specs.Prelude.{Bool, true, false, List, [], ◌∷◌, ◌++◌, map, ℕ, zero, suc, ◌+◌, leb, eqb, length, drop}
-use Rattle.std.proofs.Math.Option.{Option, some, none}
+use Rattle.std.specs.Prelude.{Bool, true, false, List, [], ◌∷◌, ◌++◌, map, ℕ, zero, suc, ◌+◌, leb, eqb, length, drop, Option, Some, None}
 use Rattle.octets.specs.Pick.{pick, both}
 use Rattle.keys.specs.Entries.{Entry, entry}
 
@@ -21,8 +20,8 @@ pub data Shape : Type 0 where
 
 -- entries whose keys are the remainders: the value of the empty one
 unfoldable pub own : List Entry → Option ℕ
-own [] = none
-own (e ∷ es) = elim e.key [ [] ↦ some e.value | b ∷ k ↦ own es ]
+own [] = None
+own (e ∷ es) = elim e.key [ [] ↦ Some e.value | b ∷ k ↦ own es ]
 
 -- the non-empty remainders
 unfoldable pub longer : List Entry → List Entry
@@ -91,8 +90,8 @@ node_count es = 1 + nodes (shape es)
 
 -- the entry of a key node
 abbrev pub own_entry : List ℕ → Option ℕ → List Entry
-own_entry k none = []
-own_entry k (some v) = entry k v ∷ []
+own_entry k None = []
+own_entry k (Some v) = entry k v ∷ []
 
 -- the entries below a node that the bytes `before` lead to, in order
 unfoldable pub entries_below : List ℕ → Shape → List Entry

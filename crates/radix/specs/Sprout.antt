@@ -1,6 +1,5 @@
 -- The shape of rising entries made in one pass over them, as the code lays it: it is `shape` (proofs/Sprouts). Assumes nothing.
-use Rattle.std.specs.Prelude.{Bool, true, false, List, [], ◌∷◌, ℕ, zero, suc, eqb, length, take, drop}
-use Rattle.std.proofs.Math.Option.{Option, some, none}
+use Rattle.std.specs.Prelude.{Bool, true, false, List, [], ◌∷◌, ℕ, zero, suc, eqb, length, take, drop, Option, Some, None}
 use Rattle.octets.specs.Pick.{pick, both}
 use Rattle.keys.specs.Entries.{Entry}
 use Rattle.radix.specs.Shape.{Shape, nil, node, prefix_of, cut, first_byte}
@@ -20,8 +19,8 @@ stretch first es = pick (both first (eqb (group es) (length es))) (length (prefi
 
 -- the key that ends here comes first, if there is one
 abbrev pub own_first : List Entry → Option ℕ
-own_first [] = none
-own_first (e ∷ es) = elim e.key [ [] ↦ some e.value | b ∷ k ↦ none ]
+own_first [] = None
+own_first (e ∷ es) = elim e.key [ [] ↦ Some e.value | b ∷ k ↦ None ]
 
 abbrev pub after_own : List Entry → List Entry
 after_own [] = []

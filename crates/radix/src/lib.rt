@@ -20,17 +20,3 @@ pub struct Index {
     pub val: [u32; 256],
     pub label: [u8; 4096],
 }
-
-// The value of a key, if it is held.
-#[derive(Clone, Copy)]
-pub enum Lookup {
-    Value(u32),
-    Nothing,
-}
-
-// How many rows a table has after rows were gathered; or they did not fit it.
-#[derive(Clone, Copy)]
-pub enum Gathered {
-    Rows(usize),
-    TooMany,
-}

@@ -55,11 +55,7 @@ pub fn label_len(s: &[u8], p: usize) -> usize
     requires { (length s.now ≡ record_size) × (p < 256) }
     ensures { (result ≡ length_of (pool_in s.now).len p) × (result ≤ 16) }
 {
-    let n = len_at(s, p);
-    if 16 < n {
-        return 16;
-    }
-    n
+    len_at(s, p).min(16)
 }
 
 // The first byte of a label, 0 where it has none.

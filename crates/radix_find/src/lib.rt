@@ -6,11 +6,9 @@ ghost use Rattle.std.specs.Prelude.{◌≡◌, ◌+◌, ◌<◌, ◌≤◌, leng
 ghost use Rattle.octets.specs.Place.{area};
 ghost use Rattle.radix.specs.Shape.{starts_with};
 ghost use Rattle.radix.specs.Record.{value_of, tree_at};
-ghost use Rattle.radix.specs.Answer.{lookup_of};
 ghost use Rattle.radix.specs.Walk.{find_in};
 ghost use Rattle.radix_bytes.specs.Bytes.{record_size, pool_in};
 
-use radix::Lookup;
 use radix_bytes::LABELS_AT;
 
 // Whether the n bytes of a label start what is left of the key from i on.
@@ -18,48 +16,40 @@ fn starts(s: &[u8], at: usize, n: usize, k: &[u8], i: usize) -> bool
     requires { (at + n ≤ length s.now) × (i ≤ length k.now) }
     ensures { result ≡ starts_with (area at n s.now) (drop i k.now) }
 {
-    let mut j = 0;
-    while j < n {
+    for j in 0..n {
         if k.len() - i <= j {
             return false;
         }
         if s[at + j] != k[i + j] {
             return false;
         }
-        j += 1;
     }
     true
 }
 
 // The value of a key node.
-fn own(s: &[u8], p: usize) -> Lookup
+fn own(s: &[u8], p: usize) -> Option<u32>
     requires { (length s.now ≡ record_size) × (p < 256) }
-    ensures { lookup_of result ≡ value_of (pool_in s.now) p }
+    ensures { result ≡ value_of (pool_in s.now) p }
 {
     if radix_bytes::key_at(s, p) == 0 {
-        return Lookup::Nothing;
+        return None;
     }
-    Lookup::Value(radix_bytes::value_at(s, p))
+    Some(radix_bytes::value_at(s, p))
 }
 
-// From the link `first`, and down at most 256 nodes.
-pub fn find_from(s: &[u8], first: usize, k: &[u8]) -> Lookup
+// From the link `first`, and down at most 256 nodes: each step follows a link that it reads.
+pub fn find_from(s: &[u8], first: usize, k: &[u8]) -> Option<u32>
     requires { length s.now ≡ record_size }
-    ensures { lookup_of result ≡ find_in (tree_at 256 (pool_in s.now) first) k.now }
+    ensures { result ≡ find_in (tree_at 256 (pool_in s.now) first) k.now }
 {
     let mut at = first;
     let mut i = 0;
     let mut left: usize = 256;
-    while 0 < left {
-        left -= 1;
-        if at == 0 {
-            return Lookup::Nothing;
-        }
-        if 256 < at {
-            return Lookup::Nothing;
-        }
+    while radix::leads(left, at) {
         let p = at - 1;
         let n = radix_bytes::label_len(s, p);
+        left -= 1;
         if starts(s, LABELS_AT + 16 * p, n, k, i) {
             i += n;
             if k.len() <= i {
@@ -70,5 +60,5 @@ pub fn find_from(s: &[u8], first: usize, k: &[u8]) -> Lookup
             at = radix_bytes::next_at(s, p);
         }
     }
-    Lookup::Nothing
+    None
 }

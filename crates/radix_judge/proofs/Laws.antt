@@ -2,7 +2,7 @@
 use mathlib.Core.Bool.{Bool, true, false, false≢true}
 use mathlib.Core.Path.{◌≡◌, refl, sym, ap, ◌∙◌, subst⁻¹}
 use mathlib.Core.List.{List, []}
-use mathlib.Core.Option.{Option, some, none}
+use Rattle.std.proofs.Common.{Option, Some, None}
 use Prim.Native.Nat.{ℕ, zero, suc, ◌+◌, ◌≤◌, ◌<◌}
 use native.Mathlib.Omega.{arith}
 use borrow.Author.Tests.{eqb-true, eqb-false, ne_eqb, ltb-true, ltb-false}
@@ -94,12 +94,12 @@ module _ (x : Index) (size : length x.label ≡ 4096) where
       go false e = w.tidy q (get_or-set_other (zeros 256) x.root q 1 0 (eqb-false q x.root e) ∙ none_marked) z
 
   abbrev Held : Type 0
-  Held = (fs : List Entry) × (gathered [] (tree_of x) [] ≡ some fs) × (entries_of x ≡ some fs)
+  Held = (fs : List Entry) × (gathered [] (tree_of x) [] ≡ Some fs) × (entries_of x ≡ Some fs)
 
   held_by_lem : (o : Option Seen) → walk ≡ o → ltb x.root 256 ≡ true → is_root (nodes_of x) x.root ≡ true → is_tidy (nodes_of x) x.root ≡ true → rest_free (nodes_of x) o ≡ true → Held
   unfolding is_placed canonical
-  held_by_lem none q a b c f = absurd (false≢true f)
-  held_by_lem (some r) q a b c f =
+  held_by_lem None q a b c f = absurd (false≢true f)
+  held_by_lem (Some r) q a b c f =
       let w = walked (nodes_of x) size 256 true 0 (get_or x.child x.root 0) 0 0 start r q in
       let rows = w.rows [] [] refl refl in
       let placed : is_placed x ≡ true = both_of a (ap (are_fit x) w.marked ∙ both_of b (clean_of (nodes_of x) r.marks 0 256 f (tidy_all r w c))) in
@@ -113,10 +113,10 @@ module _ (x : Index) (size : length x.label ≡ 4096) where
       let c = both_true (is_root (nodes_of x) x.root) (is_tidy (nodes_of x) x.root) b.0 in
       held_by_lem walk refl a.0 c.0 c.1 b.1
 
-  sound_by_lem : (o : Option (List ℕ)) → marks_of x ≡ o → ltb x.root 256 ≡ true → are_fit x o ≡ true → (es : List Entry) → canonical (tree_of x) ≡ true → gathered [] (tree_of x) [] ≡ some es → is_sound x ≡ true
+  sound_by_lem : (o : Option (List ℕ)) → marks_of x ≡ o → ltb x.root 256 ≡ true → are_fit x o ≡ true → (es : List Entry) → canonical (tree_of x) ≡ true → gathered [] (tree_of x) [] ≡ Some es → is_sound x ≡ true
   unfolding is_sound canonical
-  sound_by_lem none q a f es k g = absurd (false≢true f)
-  sound_by_lem (some m) q a f es k g =
+  sound_by_lem None q a f es k g = absurd (false≢true f)
+  sound_by_lem (Some m) q a f es k g =
       let b = both_true (is_root (nodes_of x) x.root) (are_clean (nodes_of x) m 0 256) f in
       let l = marks_long x.child x.next 256 (get_or x.child x.root 0) start m q in
       let tidy = tidy_in (nodes_of x) m (l ∙ start_long) b.1 in
@@ -124,19 +124,19 @@ module _ (x : Index) (size : length x.label ≡ 4096) where
       let v = visits (nodes_of x) size 256 true 0 (get_or x.child x.root 0) 0 0 start m [] [] es start_long (omega arith) refl refl q k g tidy in
       both_of a (both_of (both_of b.0 (tidy x.root (marks_stay x.child x.next 256 (get_or x.child x.root 0) start m x.root q (root_marked h)))) (ap (rest_free (nodes_of x)) v ∙ free_of_lem (nodes_of x) m 0 256 b.1))
 
-  sound_of : (es : List Entry) → entries_of x ≡ some es → is_sound x ≡ true
+  sound_of : (es : List Entry) → entries_of x ≡ Some es → is_sound x ≡ true
   unfolding is_placed
   sound_of es e =
       let h = holds x es e in
       let a = both_true (ltb x.root 256) (are_fit x (marks_of x)) h.placed in
       sound_by_lem (marks_of x) refl a.0 a.1 es (ap canonical h.tree ∙ shape_canonical es h.map) (ap (λ (t : Shape). gathered [] t []) h.tree ∙ shape_gathered es h.map)
 
-  pub not_sound : is_sound x ≡ false → none ≡ entries_of x
+  pub not_sound : is_sound x ≡ false → None ≡ entries_of x
   not_sound e = go (entries_of x) refl
     where
-      go : (o : Option (List Entry)) → entries_of x ≡ o → none ≡ entries_of x
-      go none q = sym q
-      go (some es) q = absurd (never (sound_of es q) e)
+      go : (o : Option (List Entry)) → entries_of x ≡ o → None ≡ entries_of x
+      go None q = sym q
+      go (Some es) q = absurd (never (sound_of es q) e)
 
   pub sound_gathered : is_sound x ≡ true → gathered [] (tree_of x) [] ≡ entries_of x
   sound_gathered e = let h = held e in h.1 ∙ sym h.2

@@ -3,7 +3,7 @@
 use mathlib.Core.Bool.{Bool, true, false}
 use mathlib.Core.Path.{◌≡◌, refl, sym, ap, ap₂, ◌∙◌, subst}
 use mathlib.Core.List.{List, ◌∷◌, [], ◌++◌}
-use mathlib.Core.Option.{Option, some, none}
+use Rattle.std.proofs.Common.{Option, Some, None}
 use Prim.Native.Nat.{ℕ, zero, suc, ◌+◌, ◌*◌, ◌^◌, ◌≤◌, ◌<◌}
 use native.Mathlib.Omega.{arith}
 use borrow.Author.Tests.{eqb-true, eqb-false, lt-ltb, le-leb, ltb-true, leb-true}
@@ -29,18 +29,18 @@ by_flag {P} f v e a b = go (eqb f 0) refl e
     go false z h = b (eqb-true f 1 h)
 
 own_room : (k : List ℕ) (f v : ℕ) (es : List Entry) → is_flag f v ≡ true → length es + f ≤ 64 → v < 2 ^ 32
-    → (fs : List Entry) × (with_own k (pick (eqb f 0) none (some v)) es ≡ some fs) × (length fs ≡ length es + f)
+    → (fs : List Entry) × (with_own k (pick (eqb f 0) None (Some v)) es ≡ Some fs) × (length fs ≡ length es + f)
 own_room k f v es e n w =
     by_flag f v e (λ z y. (es, rw z, omega (arith, z)))
     (λ z. let m : length es < 64 = omega (arith, z) in (es ++ (entry k v ∷ []), rw (z, lt-ltb (length es) 64 m, lt-ltb v (2 ^ 32) w), omega (arith, z, length-append es (entry k v ∷ []))))
 
-own_took : (k : List ℕ) (f v : ℕ) (es fs : List Entry) → is_flag f v ≡ true → length es ≤ 64 → with_own k (pick (eqb f 0) none (some v)) es ≡ some fs
+own_took : (k : List ℕ) (f v : ℕ) (es fs : List Entry) → is_flag f v ≡ true → length es ≤ 64 → with_own k (pick (eqb f 0) None (Some v)) es ≡ Some fs
     → (length fs ≡ length es + f) × (length es + f ≤ 64) × (v < 2 ^ 32)
 own_took k f v es fs e l h =
     by_flag f v e
-    (λ z y. let g : some es ≡ some fs = rw z at h in (omega (arith, z, ap length (some_is g)), omega (arith, z), omega (arith, y)))
+    (λ z y. let g : Some es ≡ Some fs = rw z at h in (omega (arith, z, ap length (some_is g)), omega (arith, z), omega (arith, y)))
     (λ z.
-    needed (both (ltb (length es) 64) (ltb v (2 ^ 32))) (some (es ++ (entry k v ∷ []))) (rw z at h)
+    needed (both (ltb (length es) 64) (ltb v (2 ^ 32))) (Some (es ++ (entry k v ∷ []))) (rw z at h)
     (λ t u. let q = both_true (ltb (length es) 64) (ltb v (2 ^ 32)) t in (omega (arith, z, ap length (some_is u), length-append es (entry k v ∷ [])), omega (arith, z, ltb-true (length es) 64 q.0), ltb-true v (2 ^ 32) q.1)))
 
 -- the tests at a place
@@ -77,12 +77,12 @@ flag_of_lem x p e = (both_true (is_flag (get_or x.key p 0) (get_or x.val p 0)) _
 
 -- what a walk that answers r says
 pub record Walked (most : ℕ) (x : Nodes) (first : Bool) (least link d n : ℕ) (marks : List ℕ) (r : Seen) : Type 0 where
-  pub marked : marks_from most x.child x.next link marks ≡ some r.marks
+  pub marked : marks_from most x.child x.next link marks ≡ Some r.marks
   pub kept : rules first least (tree_at most x link) ≡ true
-  pub rows : (before : List ℕ) (es : List Entry) → length before ≡ d → length es ≡ n → (fs : List Entry) × (gathered before (tree_at most x link) es ≡ some fs) × (length fs ≡ r.keys)
+  pub rows : (before : List ℕ) (es : List Entry) → length before ≡ d → length es ≡ n → (fs : List Entry) × (gathered before (tree_at most x link) es ≡ Some fs) × (length fs ≡ r.keys)
   pub tidy : (q : ℕ) → get_or marks q 0 ≡ 0 → (get_or r.marks q 0 ≡ 0 → ⊥) → is_tidy x q ≡ true
 
-marks_none : (child next : List ℕ) (most : ℕ) (marks : List ℕ) → marks_from most child next 0 marks ≡ some marks
+marks_none : (child next : List ℕ) (most : ℕ) (marks : List ℕ) → marks_from most child next 0 marks ≡ Some marks
 unfolding marks_from
 marks_none child next zero marks = refl
 marks_none child next (suc most) marks = refl
@@ -108,7 +108,7 @@ module _ (x : Nodes) (size : length x.label ≡ 4096) (most p : ℕ) (h : p < 25
     abbrev Later : Type 0
     Later = Walked most x false (first_byte (label_of x p) + 1) (get_or x.next p 0) d r.keys r.marks s
 
-    all_marked : Below → Later → marks_from (suc most) x.child x.next (suc p) marks ≡ some s.marks
+    all_marked : Below → Later → marks_from (suc most) x.child x.next (suc p) marks ≡ Some s.marks
     unfolding marks_from
     all_marked a b = rw (lt-ltb p 256 h, z, a.marked) b.marked
 
@@ -116,7 +116,7 @@ module _ (x : Nodes) (size : length x.label ≡ 4096) (most p : ℕ) (h : p < 25
     unfolding rules rule_at
     all_kept a b = ap (rules first least) (step x most p h) ∙ both_of f.rule (both_of a.kept b.kept)
 
-    all_rows : Below → Later → (before : List ℕ) (es : List Entry) → length before ≡ d → length es ≡ n → (fs : List Entry) × (gathered before (tree_at (suc most) x (suc p)) es ≡ some fs) × (length fs ≡ s.keys)
+    all_rows : Below → Later → (before : List ℕ) (es : List Entry) → length before ≡ d → length es ≡ n → (fs : List Entry) × (gathered before (tree_at (suc most) x (suc p)) es ≡ Some fs) × (length fs ≡ s.keys)
     unfolding gathered
     all_rows a b before es bl el =
         let own = own_room (before ++ label_of x p) (get_or x.key p 0) (get_or x.val p 0) es (flag_of_lem x p f.tidy) (omega (arith, el, f.few)) f.value in
@@ -139,10 +139,10 @@ module _ (x : Nodes) (size : length x.label ≡ 4096) (most p : ℕ) (h : p < 25
     stepped : Below → Later → Walked (suc most) x first least (suc p) d n marks s
     stepped a b = record { marked = all_marked a b; kept = all_kept a b; rows = all_rows a b; tidy = all_tidy a b }
 
-pub walked : (x : Nodes) → length x.label ≡ 4096 → (most : ℕ) (first : Bool) (least link d n : ℕ) (marks : List ℕ) (r : Seen) → visit most x first least link d n marks ≡ some r → Walked most x first least link d n marks r
+pub walked : (x : Nodes) → length x.label ≡ 4096 → (most : ℕ) (first : Bool) (least link d n : ℕ) (marks : List ℕ) (r : Seen) → visit most x first least link d n marks ≡ Some r → Walked most x first least link d n marks r
 unfolding visit
 walked x size zero first least link d n marks r e =
-    needed (eqb link 0) (some (seen n marks)) e
+    needed (eqb link 0) (Some (seen n marks)) e
     (λ t u. subst (λ (l : ℕ). Walked zero x first least l d n marks r) (sym (eqb-true link 0 t)) (subst (Walked zero x first least 0 d n marks) (some_is u) (at_end_lem x zero first least d n marks)))
 walked x size (suc most) first least zero d n marks r e = subst (Walked (suc most) x first least 0 d n marks) (some_is e) (at_end_lem x (suc most) first least d n marks)
 walked x size (suc most) first least (suc p) d n marks r e =
@@ -158,10 +158,10 @@ walked x size (suc most) first least (suc p) d n marks r e =
     (walked x size most false (first_byte (label_of x p) + 1) (get_or x.next p 0) d s.keys s.marks r g))))
 
 -- and the other way round; marks stay, and stay within the pool
-pub marks_stay : (child next : List ℕ) (most link : ℕ) (m o : List ℕ) (q : ℕ) → marks_from most child next link m ≡ some o → (get_or m q 0 ≡ 0 → ⊥) → get_or o q 0 ≡ 0 → ⊥
+pub marks_stay : (child next : List ℕ) (most link : ℕ) (m o : List ℕ) (q : ℕ) → marks_from most child next link m ≡ Some o → (get_or m q 0 ≡ 0 → ⊥) → get_or o q 0 ≡ 0 → ⊥
 unfolding marks_from
 marks_stay child next zero link m o q e z =
-    needed (eqb link 0) (some m) e (λ t u. subst (λ (l : List ℕ). get_or l q 0 ≡ 0 → ⊥) (some_is u) z)
+    needed (eqb link 0) (Some m) e (λ t u. subst (λ (l : List ℕ). get_or l q 0 ≡ 0 → ⊥) (some_is u) z)
 marks_stay child next (suc most) zero m o q e z = subst (λ (l : List ℕ). get_or l q 0 ≡ 0 → ⊥) (some_is e) z
 marks_stay child next (suc most) (suc p) m o q e z =
     needed (both (ltb p 256) (eqb (get_or m p 0) 0)) _ e
@@ -173,9 +173,9 @@ marks_stay child next (suc most) (suc p) m o q e z =
     (marks_stay child next most (get_or child p 0) (set m p 1) l q y
     (λ w. z (sym (get_or-set_other m p q 1 0 (λ i. z (ap (λ (j : ℕ). get_or m j 0) i ∙ f))) ∙ w)))))
 
-pub marks_long : (child next : List ℕ) (most link : ℕ) (m o : List ℕ) → marks_from most child next link m ≡ some o → length o ≡ length m
+pub marks_long : (child next : List ℕ) (most link : ℕ) (m o : List ℕ) → marks_from most child next link m ≡ Some o → length o ≡ length m
 unfolding marks_from
-marks_long child next zero link m o e = needed (eqb link 0) (some m) e (λ t u. ap length (sym (some_is u)))
+marks_long child next zero link m o e = needed (eqb link 0) (Some m) e (λ t u. ap length (sym (some_is u)))
 marks_long child next (suc most) zero m o e = ap length (sym (some_is e))
 marks_long child next (suc most) (suc p) m o e =
     needed (both (ltb p 256) (eqb (get_or m p 0) 0)) _ e
@@ -184,13 +184,13 @@ marks_long child next (suc most) (suc p) m o e =
     (λ l y g. marks_long child next most (get_or next p 0) l o g ∙ marks_long child next most (get_or child p 0) (set m p 1) l y ∙ length-set m p 1))
 
 -- at most 64 rows
-own_few : (k : List ℕ) (v : Option ℕ) (es fs : List Entry) → length es ≤ 64 → with_own k v es ≡ some fs → length fs ≤ 64
-own_few k none es fs l e = subst (λ (r : List Entry). length r ≤ 64) (some_is e) l
-own_few k (some v) es fs l e =
-    needed (both (ltb (length es) 64) (ltb v (2 ^ 32))) (some (es ++ (entry k v ∷ []))) e
+own_few : (k : List ℕ) (v : Option ℕ) (es fs : List Entry) → length es ≤ 64 → with_own k v es ≡ Some fs → length fs ≤ 64
+own_few k None es fs l e = subst (λ (r : List Entry). length r ≤ 64) (some_is e) l
+own_few k (Some v) es fs l e =
+    needed (both (ltb (length es) 64) (ltb v (2 ^ 32))) (Some (es ++ (entry k v ∷ []))) e
     (λ t u. omega (arith, ap length (some_is u), length-append es (entry k v ∷ []), ltb-true (length es) 64 (both_true (ltb (length es) 64) (ltb v (2 ^ 32)) t).0))
 
-few : (before : List ℕ) (s : Shape) (es fs : List Entry) → length es ≤ 64 → gathered before s es ≡ some fs → length fs ≤ 64
+few : (before : List ℕ) (s : Shape) (es fs : List Entry) → length es ≤ 64 → gathered before s es ≡ Some fs → length fs ≤ 64
 unfolding gathered
 few before nil es fs l e = subst (λ (r : List Entry). length r ≤ 64) (some_is e) l
 few before (node label v below later) es fs l e =
@@ -205,14 +205,14 @@ abbrev pub AllTidy : Nodes → List ℕ → Type 0
 AllTidy x o = (q : ℕ) → (get_or o q 0 ≡ 0 → ⊥) → is_tidy x q ≡ true
 
 pub visits : (x : Nodes) → length x.label ≡ 4096 → (most : ℕ) (first : Bool) (least link d n : ℕ) (m o : List ℕ) (before : List ℕ) (es fs : List Entry)
-    → length m ≡ 256 → length es ≤ 64 → length before ≡ d → length es ≡ n → marks_from most x.child x.next link m ≡ some o → rules first least (tree_at most x link) ≡ true
-    → gathered before (tree_at most x link) es ≡ some fs → AllTidy x o → visit most x first least link d n m ≡ some (seen (length fs) o)
+    → length m ≡ 256 → length es ≤ 64 → length before ≡ d → length es ≡ n → marks_from most x.child x.next link m ≡ Some o → rules first least (tree_at most x link) ≡ true
+    → gathered before (tree_at most x link) es ≡ Some fs → AllTidy x o → visit most x first least link d n m ≡ Some (seen (length fs) o)
 unfolding visit marks_from tree_at gathered rules rule_at
 visits x size zero first least link d n m o before es fs ml l bl el em er eg tidy =
-    needed (eqb link 0) (some m) em
-    (λ t u. rw t (ap some (ap₂ seen (sym el ∙ ap length (some_is eg)) (some_is u))))
+    needed (eqb link 0) (Some m) em
+    (λ t u. rw t (ap Some (ap₂ seen (sym el ∙ ap length (some_is eg)) (some_is u))))
 visits x size (suc most) first least zero d n m o before es fs ml l bl el em er eg tidy =
-    ap some (ap₂ seen (sym el ∙ ap length (some_is eg)) (some_is em))
+    ap Some (ap₂ seen (sym el ∙ ap length (some_is eg)) (some_is em))
 visits x size (suc most) first least (suc p) d n m o before es fs ml l bl el em er eg tidy =
     needed (both (ltb p 256) (eqb (get_or m p 0) 0)) _ em
     (λ t u.

@@ -1,14 +1,12 @@
 -- The judgement of a record in one walk over its tree: each node is marked and makes all its tests at once, keys are counted and depths
 -- measured; then no place without a mark may hold anything. It says exactly whether a record holds entries: proofs/Laws. Assumes nothing.
-use Rattle.std.specs.Prelude.{Bool, true, false, List, ℕ, zero, suc, ◌+◌, ◌*◌, ◌-◌, ◌^◌, leb, ltb, eqb, get_or, set}
-use Rattle.std.proofs.Math.Option.{Option, some, none}
+use Rattle.std.specs.Prelude.{Bool, true, false, List, ℕ, zero, suc, ◌+◌, ◌*◌, ◌-◌, ◌^◌, leb, ltb, eqb, get_or, set, Option, Some, None, ◌≤◌}
 use Rattle.octets.specs.Pick.{pick, both}
 use Rattle.octets.specs.Maybe.{need, ◌>>◌, ◌>>=◌}
 use Rattle.octets.specs.Bytes.{zeros}
 use Rattle.octets.specs.Place.{area}
 use Rattle.octets.specs.Compare.{all_zero}
 use Rattle.keys.specs.Entries.{most_keys, length_of}
-use Rattle.keys.specs.Listing.{if_so}
 use Rattle.radix.specs.Shape.{first_byte}
 use Rattle.radix.specs.Canon.{is_nil, is_only, is_one_of}
 use Rattle.radix.specs.Record.{Nodes, nodes_of, label_of, value_of, tree_at, is_tidy, is_free, is_root}
@@ -41,7 +39,7 @@ is_fit first least most x p d n =
 
 -- the node that a link leads to, what lies below it, its later siblings; `go` goes on
 abbrev pub visit_at : (Bool → ℕ → ℕ → ℕ → ℕ → List ℕ → Option Seen) → ℕ → Nodes → Bool → ℕ → ℕ → ℕ → ℕ → List ℕ → Option Seen
-visit_at go most x first least zero d n marks = some (seen n marks)
+visit_at go most x first least zero d n marks = Some (seen n marks)
 visit_at go most x first least (suc p) d n marks =
     need (both (ltb p 256) (eqb (get_or marks p 0) 0))
     >> (need (is_fit first least most x p d n)
@@ -50,12 +48,17 @@ visit_at go most x first least (suc p) d n marks =
 
 -- none, too, where a path has more than `most` nodes
 unfoldable pub visit : ℕ → Nodes → Bool → ℕ → ℕ → ℕ → ℕ → List ℕ → Option Seen
-visit zero x first least link d n marks = need (eqb link 0) >> some (seen n marks)
+visit zero x first least link d n marks = need (eqb link 0) >> Some (seen n marks)
 visit (suc most) x first least link d n marks = visit_at (visit most x) most x first least link d n marks
 
--- a walk's answer in one number: 65 for none
-abbrev pub seen_of : ℕ → List ℕ → Option Seen
-seen_of r marks = if_so (leb r most_keys) (seen r marks)
+-- a walk's answer: how many keys there are then
+abbrev pub seen_of : Option ℕ → List ℕ → Option Seen
+seen_of None marks = None
+seen_of (Some n) marks = Some (seen n marks)
+
+abbrev pub Few : Option ℕ → Type 0
+Few None = Unit {0}
+Few (Some n) = n ≤ most_keys
 
 -- of the n places from p on, those without a mark are free
 unfoldable pub are_free : Nodes → List ℕ → ℕ → ℕ → Bool
@@ -71,8 +74,8 @@ zero_from s p =
     (both (all_zero (area (children_at + 2 * p) (512 - 2 * p) s)) (both (all_zero (area (keys_at + p) (256 - p) s)) (all_zero (area (lens_at + p) (256 - p) s))))))
 
 abbrev pub rest_free : Nodes → Option Seen → Bool
-rest_free x none = false
-rest_free x (some r) = are_free x r.marks 0 256
+rest_free x None = false
+rest_free x (Some r) = are_free x r.marks 0 256
 
 -- whether a record holds entries
 unfoldable pub is_sound : Index → Bool

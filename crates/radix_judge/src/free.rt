@@ -34,7 +34,7 @@ fn free_at(s: &[u8], p: usize) -> bool
 }
 
 // The same, unless it has a mark.
-fn free_unless<'a>(s: &'a [u8], marks: &'a [u8], p: usize) -> bool
+fn free_unless(s: &[u8], marks: &[u8], p: usize) -> bool
     requires { (length s.now ≡ record_size) × ((length marks.now ≡ 256) × (p < 256)) }
     ensures { result ≡ pick (eqb (get_or marks.now p 0) 0) (is_free (pool_in s.now) p) true }
 {
@@ -44,16 +44,14 @@ fn free_unless<'a>(s: &'a [u8], marks: &'a [u8], p: usize) -> bool
     free_at(s, p)
 }
 
-fn free_from<'a>(s: &'a [u8], marks: &'a [u8], from: usize) -> bool
+fn free_from(s: &[u8], marks: &[u8], from: usize) -> bool
     requires { (length s.now ≡ record_size) × ((length marks.now ≡ 256) × (from ≤ 256)) }
     ensures { result ≡ are_free (pool_in s.now) marks.now from (256 - from) }
 {
-    let mut p = from;
-    while p < 256 {
+    for p in from..256 {
         if !free_unless(s, marks, p) {
             return false;
         }
-        p += 1;
     }
     true
 }
@@ -63,14 +61,12 @@ fn marked_words(marks: &[u8]) -> usize
     requires { length marks.now ≡ 256 }
     ensures { (result ≤ 256) × ((x : Nodes) → are_free x marks.now result (256 - result) ≡ are_free x marks.now 0 256) }
 {
-    let mut p = 0;
-    while p + 8 <= 256 {
-        if octets::read_le(marks, p, 8) != 0x0101_0101_0101_0101 {
-            return p;
+    for w in 0..32 {
+        if octets::read_le(marks, 8 * w, 8) != 0x0101_0101_0101_0101 {
+            return 8 * w;
         }
-        p += 8;
     }
-    p
+    256
 }
 
 // The first place without a mark.
@@ -78,14 +74,12 @@ fn first_free(marks: &[u8]) -> usize
     requires { length marks.now ≡ 256 }
     ensures { (result ≤ 256) × ((x : Nodes) → are_free x marks.now result (256 - result) ≡ are_free x marks.now 0 256) }
 {
-    let mut p = marked_words(marks);
-    while p < 256 {
+    for p in marked_words(marks)..256 {
         if marks[p] == 0 {
             return p;
         }
-        p += 1;
     }
-    p
+    256
 }
 
 // Whether every field from place p on is zero.
@@ -111,7 +105,7 @@ fn zero_from(s: &[u8], p: usize) -> bool
     octets::all_zero_from(&s[LENS_AT + p..KEYS_AT], 0)
 }
 
-pub fn rest_free<'a>(s: &'a [u8], marks: &'a [u8]) -> bool
+pub fn rest_free(s: &[u8], marks: &[u8]) -> bool
     requires { (length s.now ≡ record_size) × (length marks.now ≡ 256) }
     ensures { result ≡ are_free (pool_in s.now) marks.now 0 256 }
 {

@@ -57,7 +57,7 @@ pub fn is_sound(s: &[u8]) -> bool
     let mut marks = [0u8; 256];
     marks[root] = 1;
     let first = radix_bytes::child_at(s, root);
-    if 64 < visit(s, 256, first, 0, 0, &mut marks) {
+    if visit(s, 256, first, 0, 0, &mut marks).is_none() {
         return false;
     }
     rest_free(s, &marks)

@@ -7,8 +7,8 @@ use native.Mathlib.Omega.{arith}
 use lib.ListN.{length, take, drop, take-append-drop, length-drop, drop_of_length-le}
 use lib.Seq.{take_at}
 use Rattle.octets.specs.Compare.{order_of, is_less, comes_before}
-use Rattle.octets.specs.declared.Order.{Order}
-use Rattle.octets.specs.declared.Order.TheVariants.{Less, Equal, Greater}
+use Rattle.std.specs.declared.cmp.Ordering.{Ordering}
+use Rattle.std.specs.declared.cmp.Ordering.TheVariants.{Less, Equal, Greater}
 use Rattle.octets.proofs.Laws.{mirror, by_order, first_less, first_equal, order_equal, before_self}
 use Rattle.radix.specs.Shape.{starts_with}
 use Rattle.keys.proofs.Laws.{before_less, before_equal, before_nil, is_false, before_once}
@@ -33,7 +33,7 @@ module _ (l k : List ℕ) (e : order_of l (take (length l) k) ≡ Less) where
 -- the key comes before the label
 pub greater_before : (l k : List ℕ) → order_of l (take (length l) k) ≡ Greater → comes_before k l ≡ true
 unfolding order_of
-greater_before [] k e = absurd (true≢false (sym (ap (λ (o : Order). is_less (mirror o)) e)))
+greater_before [] k e = absurd (true≢false (sym (ap (λ (o : Ordering). is_less (mirror o)) e)))
 greater_before (b ∷ l) [] e = refl
 greater_before (b ∷ l) (c ∷ k) e =
     by_order b c

@@ -2,7 +2,7 @@
 use mathlib.Core.Bool.{true, false}
 use mathlib.Core.Path.{◌≡◌, refl, sym, ap, ap₂, ◌∙◌}
 use mathlib.Core.List.{List, [], ◌∷◌, ◌++◌}
-use mathlib.Core.Option.{Option, some, none}
+use Rattle.std.proofs.Common.{Option, Some, None}
 use Prim.Native.Nat.{ℕ, zero, suc, ◌+◌, ◌*◌, ◌-◌, ◌≤◌, min}
 use native.Mathlib.Nat.{zero-add}
 use native.Mathlib.Omega.{arith}
@@ -17,7 +17,8 @@ use Rattle.radix.specs.Shape.{Shape, nil, node}
 use Rattle.radix.specs.Record.{Nodes, leads_on, label_of, value_of, tree_at}
 use Rattle.radix.specs.Walk.{own_of, least_in, greatest_in}
 use Rattle.keys.specs.Answer.{padded}
-use Rattle.radix_walk.specs.Neighbours.{near_at, near_of, cut_key, alone, least_from, greatest_from}
+use Rattle.keys.specs.Answer.{neighbour_as, near_of}
+use Rattle.radix_walk.specs.Neighbours.{cut_key, alone, least_from, greatest_from}
 use Rattle.radix_walk.specs.declared.near.Stop.{Stop}
 use Rattle.radix.proofs.Laws.{leads_to, tree_node, tree_not, nil_leads}
 
@@ -59,14 +60,14 @@ module _ (a b : List ℕ) (e : take 16 a ≡ take 16 b) where
   cut_same l = sym (take_append 16 a l) ∙ ap (λ (z : List ℕ). take 16 (z ++ l)) e ∙ take_append 16 b l
 
   cut_own : (l : List ℕ) (v : Option ℕ) → cut_key (own_of (a ++ l) v) ≡ cut_key (own_of (b ++ l) v)
-  cut_own l none = refl
-  cut_own l (some v) = ap (λ (k : List ℕ). some (entry k v)) (cut_same l)
+  cut_own l None = refl
+  cut_own l (Some v) = ap (λ (k : List ℕ). Some (entry k v)) (cut_same l)
 
 pub cut_least : (a b : List ℕ) (s : Shape) → take 16 a ≡ take 16 b → cut_key (least_in a s) ≡ cut_key (least_in b s)
 unfolding least_in
 cut_least a b nil e = refl
-cut_least a b (node label none below later) e = cut_least (a ++ label) (b ++ label) below (cut_same a b e label)
-cut_least a b (node label (some v) below later) e = cut_own a b e label (some v)
+cut_least a b (node label None below later) e = cut_least (a ++ label) (b ++ label) below (cut_same a b e label)
+cut_least a b (node label (Some v) below later) e = cut_own a b e label (Some v)
 
 pub cut_greatest : (a b : List ℕ) (s : Shape) → take 16 a ≡ take 16 b → cut_key (greatest_in a s) ≡ cut_key (greatest_in b s)
 unfolding greatest_in
@@ -89,13 +90,13 @@ module _ {x : Nodes} {left link n : ℕ} {a b : List ℕ} (r : Down x left link 
   again = ap (take 16) kept ∙ take-take 16 16 (a ++ label_of x (link - 1)) (omega arith)
 
   own_kept : (v : Option ℕ) → own_of b v ≡ cut_key (own_of (a ++ label_of x (link - 1)) v)
-  own_kept none = refl
-  own_kept (some v) = ap (λ (k : List ℕ). some (entry k v)) kept
+  own_kept None = refl
+  own_kept (Some v) = ap (λ (k : List ℕ). Some (entry k v)) kept
 
   pub least_own : (v : ℕ) → (get_or x.key (link - 1) 0 ≡ 0 → ⊥) → v ≡ get_or x.val (link - 1) 0
-      → some (entry b v) ≡ cut_key (least_in a (tree_at left x link))
+      → Some (entry b v) ≡ cut_key (least_in a (tree_at left x link))
   unfolding least_in
-  least_own v z e = rw (node_on x left link r.on, ne_eqb (get_or x.key (link - 1) 0) 0 z, e) (own_kept (some (get_or x.val (link - 1) 0)))
+  least_own v z e = rw (node_on x left link r.on, ne_eqb (get_or x.key (link - 1) 0) 0 z, e) (own_kept (Some (get_or x.val (link - 1) 0)))
 
   pub least_below : (q : ℕ) → get_or x.key (link - 1) 0 ≡ 0 → q ≡ get_or x.child (link - 1) 0
       → cut_key (least_in b (tree_at (left - 1) x q)) ≡ cut_key (least_in a (tree_at left x link))
@@ -144,11 +145,11 @@ module _ (x : Nodes) (k : List ℕ) (s : Stop) (b : List ℕ) (e : b ≡ take 16
 
 -- and where it ends with nothing
 module _ (x : Nodes) (before : List ℕ) (left link : ℕ) (e : leads_on left link ≡ false) where
-  pub least_end : none ≡ cut_key (least_in before (tree_at left x link))
+  pub least_end : None ≡ cut_key (least_in before (tree_at left x link))
   unfolding least_in
   least_end = rw (tree_not x left link e)
 
-  pub greatest_end : none ≡ cut_key (greatest_in before (alone (tree_at left x link)))
+  pub greatest_end : None ≡ cut_key (greatest_in before (alone (tree_at left x link)))
   unfolding greatest_in
   greatest_end = rw (tree_not x left link e)
 
@@ -164,7 +165,7 @@ padded_put bs h =
     ∙ ap (drop m) (sym (replicate-append-replicate m (16 - m) 0))
     ∙ drop_at (zeros m) (zeros (16 - m)) m (length-replicate {A = ℕ} m 0))
 
-pub near_entry : (path : List ℕ) (n v : ℕ) (key : List ℕ) → n ≤ length path → n ≤ 16 → key ≡ put (zeros 16) 0 (take n path) → near_at n v key ≡ near_of (some (entry (take n path) v))
+pub near_entry : (path : List ℕ) (n v : ℕ) (key : List ℕ) → n ≤ length path → n ≤ 16 → key ≡ put (zeros 16) 0 (take n path) → neighbour_as n v key ≡ near_of (entry (take n path) v)
 near_entry path n v key h g e =
     let l = length-take-le n path h in
-    ap₂ (λ (m : ℕ) (k : List ℕ). near_at m v k) (sym l) (e ∙ padded_put (take n path) (omega arith))
+    ap₂ (λ (m : ℕ) (k : List ℕ). neighbour_as m v k) (sym l) (e ∙ padded_put (take n path) (omega arith))

@@ -2,18 +2,18 @@
 use mathlib.Core.Bool.{Bool, true, false}
 use mathlib.Core.Path.{◌≡◌, refl, sym, ap, ◌∙◌}
 use mathlib.Core.List.{List, [], ◌++◌}
-use mathlib.Core.Option.{Option, some, none}
+use Rattle.std.proofs.Common.{Option, Some, None}
 use Prim.Native.Nat.{ℕ, ◌+◌, ◌*◌, ◌-◌, ◌≤◌, ◌<◌}
 use native.Mathlib.Omega.{arith}
 use lib.Dec.{eqb}
 use lib.ListN.{length, take, drop, get_or, length-take, length-drop}
 use lib.Seq.{take-add, drop-drop}
 use Rattle.octets.specs.Pick.{pick}
-use Rattle.octets.specs.Maybe.{or_else}
+use Rattle.std.specs.Option.{option_or}
 use Rattle.octets.specs.Place.{area}
 use Rattle.octets.specs.Compare.{order_of}
-use Rattle.octets.specs.declared.Order.{Order}
-use Rattle.octets.specs.declared.Order.TheVariants.{Less, Equal, Greater}
+use Rattle.std.specs.declared.cmp.Ordering.{Ordering}
+use Rattle.std.specs.declared.cmp.Ordering.TheVariants.{Less, Equal, Greater}
 use Rattle.octets.proofs.Laws.{length_area, part_area}
 use Rattle.keys.specs.Entries.{Entry, length_of}
 use Rattle.radix.specs.Record.{Nodes, leads_on, label_of, value_of, tree_at}
@@ -40,24 +40,24 @@ module _ (x : Nodes) (k : List ℕ) where
 
   own_greatest : (s : Stop) (link i : ℕ) → leads_on 1 link ≡ true
       → greatest_from x k (pick (eqb (get_or x.key (link - 1) 0) 0) s (stop_at link i 1))
-      ≡ or_else (own_of (take i k ++ label_of x (link - 1)) (value_of x (link - 1))) (greatest_from x k s)
+      ≡ option_or (own_of (take i k ++ label_of x (link - 1)) (value_of x (link - 1))) (greatest_from x k s)
   unfolding greatest_from greatest_in
   own_greatest s link i e = go (eqb (get_or x.key (link - 1) 0) 0) refl
     where
       go : (t : Bool) → eqb (get_or x.key (link - 1) 0) 0 ≡ t → greatest_from x k (pick t s (stop_at link i 1))
-          ≡ or_else (own_of (take i k ++ label_of x (link - 1)) (pick t none (some (get_or x.val (link - 1) 0)))) (greatest_from x k s)
+          ≡ option_or (own_of (take i k ++ label_of x (link - 1)) (pick t None (Some (get_or x.val (link - 1) 0)))) (greatest_from x k s)
       go true f = refl
       go false f = rw (node_on x 1 link e, f, tree_end x (1 - 1) (get_or x.child (link - 1) 0) refl)
 
 -- what a turn has learnt: the link leads to a node, and o says how its label, of n bytes, lies beside the key from i on
-pub record Met (x : Nodes) (k : List ℕ) (left link i n : ℕ) (o : Order) : Type 0 where
+pub record Met (x : Nodes) (k : List ℕ) (left link i n : ℕ) (o : Ordering) : Type 0 where
   pub size : length x.label ≡ 4096
   pub on : leads_on left link ≡ true
   pub within : i ≤ length k
   pub bytes : n ≡ length_of x.len (link - 1)
   pub test : o ≡ order_of (area (16 * (link - 1)) n x.label) (area i n k)
 
-module _ {x : Nodes} {k : List ℕ} {left link i n : ℕ} {o : Order} (r : Met x k left link i n o) where
+module _ {x : Nodes} {k : List ℕ} {left link i n : ℕ} {o : Ordering} (r : Met x k left link i n o) where
   wide : length (label_of x (link - 1)) ≡ n
   wide = let h = leads_to left link r.on in rw (← r.bytes) (length_area (16 * (link - 1)) n x.label (omega arith))
 

@@ -2,11 +2,11 @@
 use mathlib.Core.Path.{◌≡◌, refl, ap, ◌∙◌}
 use mathlib.Core.Bool.{Bool, true, false}
 use mathlib.Core.List.{List, [], ◌∷◌}
-use mathlib.Core.Option.{Option, some, none}
+use Rattle.std.proofs.Common.{Option, Some, None}
 use Prim.Native.Nat.{ℕ}
 use lib.Seq.{take_all}
 use Rattle.octets.specs.Pick.{pick}
-use Rattle.octets.specs.Maybe.{or_else}
+use Rattle.std.specs.Option.{option_or}
 use Rattle.keys.specs.Entries.{Entry, entry, all_fit, is_map, first_from, last_up_to}
 use Rattle.octets.specs.Compare.{comes_before}
 use Rattle.radix.specs.Shape.{shape}
@@ -16,15 +16,15 @@ use Rattle.keys.proofs.Laws.{map_fit, key_short, fit_head, fit_tail}
 use Rattle.radix_walk.proofs.FirstAbove.{shape_first}
 use Rattle.radix_walk.proofs.LastBelow.{shape_last}
 
-uncut : (e : Entry) (es : List Entry) → all_fit (e ∷ es) ≡ true → cut_key (some e) ≡ some e
-uncut e es h = ap (λ (k : List ℕ). some (entry k e.value)) (take_all 16 e.key (key_short e.key (fit_head e es h)))
+uncut : (e : Entry) (es : List Entry) → all_fit (e ∷ es) ≡ true → cut_key (Some e) ≡ Some e
+uncut e es h = ap (λ (k : List ℕ). Some (entry k e.value)) (take_all 16 e.key (key_short e.key (fit_head e es h)))
 
 cut_first : (k : List ℕ) (es : List Entry) → all_fit es ≡ true → cut_key (first_from k es) ≡ first_from k es
 unfolding first_from
 cut_first k [] h = refl
 cut_first k (e ∷ es) h = go (comes_before e.key k) (cut_first k es (fit_tail e es h))
   where
-    go : (t : Bool) → cut_key (first_from k es) ≡ first_from k es → cut_key (pick t (first_from k es) (some e)) ≡ pick t (first_from k es) (some e)
+    go : (t : Bool) → cut_key (first_from k es) ≡ first_from k es → cut_key (pick t (first_from k es) (Some e)) ≡ pick t (first_from k es) (Some e)
     go true ih = ih
     go false ih = uncut e es h
 
@@ -33,10 +33,10 @@ unfolding last_up_to
 cut_last k [] h = refl
 cut_last k (e ∷ es) h = go (comes_before k e.key) (last_up_to k es) (cut_last k es (fit_tail e es h))
   where
-    go : (t : Bool) (o : Option Entry) → cut_key o ≡ o → cut_key (pick t none (or_else o (some e))) ≡ pick t none (or_else o (some e))
+    go : (t : Bool) (o : Option Entry) → cut_key o ≡ o → cut_key (pick t None (option_or o (Some e))) ≡ pick t None (option_or o (Some e))
     go true o ih = refl
-    go false none ih = uncut e es h
-    go false (some f) ih = ih
+    go false None ih = uncut e es h
+    go false (Some f) ih = ih
 
 module _ (es : List Entry) (m : is_map es ≡ true) (k : List ℕ) where
   pub near_first : cut_key (first_in [] (shape es) k) ≡ first_from k es

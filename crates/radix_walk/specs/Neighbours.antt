@@ -1,26 +1,15 @@
 -- The neighbours of a key as the code answers them, and where its walks stop. Assumes nothing.
-use Rattle.std.specs.Prelude.{true, false, ◌≡◌, List, [], ℕ, ◌≤◌, length, take}
-use Rattle.std.proofs.Math.Option.{Option, some, none}
-use Rattle.octets.specs.Bytes.{zeros}
-use Rattle.keys.specs.Answer.{padded}
+use Rattle.std.specs.Prelude.{◌≡◌, List, [], ℕ, ◌≤◌, length, take, Option, Some, None}
 use Rattle.keys.specs.Entries.{Entry, entry}
 use Rattle.radix.specs.Shape.{Shape, nil, node}
 use Rattle.radix.specs.Record.{Nodes, tree_at}
 use Rattle.radix.specs.Walk.{least_in, greatest_in, first_in, last_in}
-use Rattle.radix_walk.specs.declared.near.Near.{Near}
 use Rattle.radix_walk.specs.declared.near.Stop.{Stop}
-
-abbrev pub near_at : ℕ → ℕ → List ℕ → Near
-near_at len value key = record { found = true; len = len; value = value; key = key }
-
-abbrev pub near_of : Option Entry → Near
-near_of none = record { found = false; len = 0; value = 0; key = zeros 16 }
-near_of (some e) = near_at (length e.key) e.value (padded e.key)
 
 -- a path is kept for 16 bytes; no key of a map has more
 abbrev pub cut_key : Option Entry → Option Entry
-cut_key none = none
-cut_key (some e) = some (entry (take 16 e.key) e.value)
+cut_key None = None
+cut_key (Some e) = Some (entry (take 16 e.key) e.value)
 
 -- a node without its later siblings
 abbrev pub alone : Shape → Shape

@@ -5,4 +5,4 @@
 
 mod near;
 
-pub use near::{Near, first_from, last_from};
+pub use near::{first_from, last_from};

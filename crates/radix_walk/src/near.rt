@@ -1,30 +1,23 @@
 // The first key at or above a key and the last at or below it, by walks down the tree: one along the key's path, which keeps the last
 // node that lies on the wanted side, and one from there to its first or last key.
 
-ghost use Rattle.std.specs.Prelude.{◌≡◌, [], ◌++◌, ◌+◌, ◌*◌, ◌-◌, ◌<◌, ◌≤◌, min, length, take, get_or, eqb};
-ghost use Rattle.std.proofs.Math.Option.{some, none};
+ghost use Rattle.std.specs.Prelude.{◌≡◌, [], ◌++◌, ◌+◌, ◌*◌, ◌-◌, ◌<◌, ◌≤◌, length, take, get_or, eqb, option_map};
 ghost use Rattle.octets.specs.Pick.{pick};
 ghost use Rattle.octets.specs.Place.{area};
 ghost use Rattle.octets.specs.Compare.{order_of};
 ghost use Rattle.keys.specs.Entries.{entry};
+ghost use Rattle.keys.specs.Answer.{near_of};
 ghost use Rattle.radix.specs.Record.{leads_on, value_of, tree_at};
 ghost use Rattle.radix.specs.Walk.{own_of, first_in, last_in};
 ghost use Rattle.radix_bytes.specs.Bytes.{record_size, pool_in};
-ghost use Rattle.radix_walk.specs.Neighbours.{near_of, cut_key, stop_at, least_from, greatest_from, StopsAbove, StopsBelow, LastOf};
+ghost use Rattle.radix_walk.specs.Neighbours.{cut_key, stop_at, least_from, greatest_from, StopsAbove, StopsBelow, LastOf};
 
-use octets::Order;
+use keys::Neighbour;
 use radix_bytes::LABELS_AT;
+use std::cmp::Ordering;
 
-// A key and its value, if there is one: len bytes, and zeros after them.
-#[derive(Clone, Copy)]
-pub struct Near {
-    pub found: bool,
-    pub len: usize,
-    pub value: u32,
-    pub key: [u8; 16],
-}
-
-// Where a walk goes on: a link, how many bytes of the key lead there, and how many nodes it may still go down.
+// Where a walk goes on: a link, how many bytes of the key lead there, and how many nodes it may still go down. Link 0 leads nowhere, as in
+// the record, so there is no Option of it.
 #[derive(Clone, Copy)]
 pub struct Stop {
     pub at: usize,
@@ -32,21 +25,12 @@ pub struct Stop {
     pub left: usize,
 }
 
-fn lesser(a: usize, b: usize) -> usize
-    ensures { result ≡ min a b }
-{
-    if a <= b {
-        return a;
-    }
-    b
-}
-
 // A label beside as many bytes of the key from i on.
-fn side(s: &[u8], at: usize, n: usize, k: &[u8], i: usize) -> Order
+fn side(s: &[u8], at: usize, n: usize, k: &[u8], i: usize) -> Ordering
     requires { (at + n ≤ length s.now) × (i ≤ length k.now) }
     ensures { result ≡ order_of (area at n s.now) (area i n k.now) }
 {
-    let m = lesser(n, k.len() - i);
+    let m = n.min(k.len() - i);
     octets::compare(&s[at..at + n], &k[i..i + m])
 }
 
@@ -60,7 +44,8 @@ fn nearer(s: Stop, at: usize, lead: usize, left: usize) -> Stop
     s
 }
 
-// The walk along the key's path, to where the first key at or above it is the first.
+// The walk along the key's path, to where the first key at or above it is the first. It and those below count nothing by hand: each step
+// follows a link that it reads.
 fn stop_above(s: &[u8], first: usize, k: &[u8]) -> Stop
     requires { length s.now ≡ record_size }
     ensures { StopsAbove (pool_in s.now) first k.now result }
@@ -77,11 +62,11 @@ fn stop_above(s: &[u8], first: usize, k: &[u8]) -> Stop
         let p = at - 1;
         let n = radix_bytes::label_len(s, p);
         match side(s, LABELS_AT + 16 * p, n, k, i) {
-            Order::Less => {
+            Ordering::Less => {
                 at = radix_bytes::next_at(s, p);
                 left -= 1;
             }
-            Order::Equal => {
+            Ordering::Equal => {
                 if k.len() <= i + n {
                     return Stop { at, lead: i, left };
                 }
@@ -90,7 +75,7 @@ fn stop_above(s: &[u8], first: usize, k: &[u8]) -> Stop
                 i += n;
                 at = radix_bytes::child_at(s, p);
             }
-            Order::Greater => return Stop { at, lead: i, left },
+            Ordering::Greater => return Stop { at, lead: i, left },
         }
     }
     stop
@@ -124,18 +109,18 @@ fn stop_below(s: &[u8], first: usize, k: &[u8]) -> Stop
         let p = at - 1;
         let n = radix_bytes::label_len(s, p);
         match side(s, LABELS_AT + 16 * p, n, k, i) {
-            Order::Less => {
+            Ordering::Less => {
                 stop = Stop { at, lead: i, left };
                 at = radix_bytes::next_at(s, p);
                 left -= 1;
             }
-            Order::Equal => {
+            Ordering::Equal => {
                 stop = own_stop(s, stop, at, i);
                 i += n;
                 at = radix_bytes::child_at(s, p);
                 left -= 1;
             }
-            Order::Greater => return stop,
+            Ordering::Greater => return stop,
         }
     }
     stop
@@ -146,51 +131,35 @@ fn laid(path: &mut [u8], n: usize, s: &[u8], at: usize, m: usize) -> usize
     requires { (length path.old ≡ 16) × (n ≤ 16) × (at + m ≤ length s.now) }
     ensures { (result ≤ 16) × (take result path.new ≡ take 16 (take n path.old ++ area at m s.now)) }
 {
-    let fits = lesser(m, 16 - n);
+    let fits = m.min(16 - n);
     octets::copy_in(path, n, &s[at..at + fits]);
     n + fits
 }
 
-fn nothing() -> Near
-    ensures { result ≡ near_of none }
-{
-    Near {
-        found: false,
-        len: 0,
-        value: 0,
-        key: [0u8; 16],
-    }
-}
-
-fn entry_of(path: &[u8], n: usize, value: u32) -> Near
+fn entry_of(path: &[u8], n: usize, value: u32) -> Neighbour
     requires { (length path.now ≡ 16) × (n ≤ 16) }
-    ensures { result ≡ near_of (some (entry (take n path.now) value)) }
+    ensures { result ≡ near_of (entry (take n path.now) value) }
 {
     let mut key = [0u8; 16];
     octets::copy_in(&mut key, 0, &path[0..n]);
-    Near {
-        found: true,
-        len: n,
-        value,
-        key,
-    }
+    Neighbour { len: n, value, key }
 }
 
 // The entry of a key node.
-fn own_entry(s: &[u8], p: usize, path: &[u8], n: usize) -> Near
+fn own_entry(s: &[u8], p: usize, path: &[u8], n: usize) -> Option<Neighbour>
     requires { (length s.now ≡ record_size) × ((p < 256) × (length path.now ≡ 16) × (n ≤ 16)) }
-    ensures { result ≡ near_of (own_of (take n path.now) (value_of (pool_in s.now) p)) }
+    ensures { result ≡ option_map near_of (own_of (take n path.now) (value_of (pool_in s.now) p)) }
 {
     if radix_bytes::key_at(s, p) == 0 {
-        return nothing();
+        return None;
     }
-    entry_of(path, n, radix_bytes::value_at(s, p))
+    Some(entry_of(path, n, radix_bytes::value_at(s, p)))
 }
 
 // Down by first children to a key node.
-fn least(s: &[u8], from: Stop, k: &[u8]) -> Near
+fn least(s: &[u8], from: Stop, k: &[u8]) -> Option<Neighbour>
     requires { (length s.now ≡ record_size) × (from.lead ≤ length k.now) }
-    ensures { result ≡ near_of (cut_key (least_from (pool_in s.now) k.now from)) }
+    ensures { result ≡ option_map near_of (cut_key (least_from (pool_in s.now) k.now from)) }
 {
     let mut path = [0u8; 16];
     let mut n = laid(&mut path, 0, k, 0, from.lead);
@@ -206,12 +175,12 @@ fn least(s: &[u8], from: Stop, k: &[u8]) -> Near
             radix_bytes::label_len(s, p),
         );
         if radix_bytes::key_at(s, p) != 0 {
-            return entry_of(&path, n, radix_bytes::value_at(s, p));
+            return Some(entry_of(&path, n, radix_bytes::value_at(s, p)));
         }
         at = radix_bytes::child_at(s, p);
         left -= 1;
     }
-    nothing()
+    None
 }
 
 // The last of the siblings that a link leads to.
@@ -241,9 +210,9 @@ fn last_of(s: &[u8], left: usize, link: usize) -> Stop
 }
 
 // Down by last children to a node that has none.
-fn greatest(s: &[u8], from: Stop, k: &[u8]) -> Near
+fn greatest(s: &[u8], from: Stop, k: &[u8]) -> Option<Neighbour>
     requires { (length s.now ≡ record_size) × (from.lead ≤ length k.now) }
-    ensures { result ≡ near_of (cut_key (greatest_from (pool_in s.now) k.now from)) }
+    ensures { result ≡ option_map near_of (cut_key (greatest_from (pool_in s.now) k.now from)) }
 {
     let mut path = [0u8; 16];
     let mut n = laid(&mut path, 0, k, 0, from.lead);
@@ -266,22 +235,22 @@ fn greatest(s: &[u8], from: Stop, k: &[u8]) -> Near
         at = last.at;
         left = last.left;
     }
-    nothing()
+    None
 }
 
 // The first key at or above k in the tree that a link leads to.
-pub fn first_from(s: &[u8], first: usize, k: &[u8]) -> Near
+pub fn first_from(s: &[u8], first: usize, k: &[u8]) -> Option<Neighbour>
     requires { length s.now ≡ record_size }
-    ensures { result ≡ near_of (cut_key (first_in [] (tree_at 256 (pool_in s.now) first) k.now)) }
+    ensures { result ≡ option_map near_of (cut_key (first_in [] (tree_at 256 (pool_in s.now) first) k.now)) }
 {
     let stop = stop_above(s, first, k);
     least(s, stop, k)
 }
 
 // The last key at or below k.
-pub fn last_from(s: &[u8], first: usize, k: &[u8]) -> Near
+pub fn last_from(s: &[u8], first: usize, k: &[u8]) -> Option<Neighbour>
     requires { length s.now ≡ record_size }
-    ensures { result ≡ near_of (cut_key (last_in [] (tree_at 256 (pool_in s.now) first) k.now)) }
+    ensures { result ≡ option_map near_of (cut_key (last_in [] (tree_at 256 (pool_in s.now) first) k.now)) }
 {
     let stop = stop_below(s, first, k);
     greatest(s, stop, k)

@@ -2,11 +2,12 @@
 use mathlib.Core.Path.{◌≡◌, refl, sym, ap, ◌∙◌, subst}
 use mathlib.Core.Bool.{true, false}
 use mathlib.Core.List.{List, [], ◌∷◌}
-use mathlib.Core.Option.{Option, some, none}
+use Rattle.std.proofs.Common.{Option, Some, None}
 use Prim.Native.Nat.{ℕ, ◌*◌, ◌≤◌, ◌<◌}
 use native.Mathlib.Omega.{arith}
 use lib.ListN.{length}
 use borrow.Author.Tests.{le-leb, lt-leb}
+use Rattle.refusal.specs.declared.Refusal.TheVariants.{BadArgument, NoSnapshot}
 use Rattle.octets.proofs.Laws.{never}
 use Rattle.id.specs.declared.Id.{Id}
 use Rattle.id.specs.Id.{least, greatest, at_most}
@@ -53,18 +54,18 @@ name_fits : (file name : List ℕ) → length name ≤ 1000 → finding_in file 
 unfolding finding_in
 name_fits file name h = rw (le-leb (length name) 1000 h)
 
-pub name_over : (file name : List ℕ) → 1000 < length name → reply.Refused 3 ≡ reply_of (answer_of (finding_in file name))
+pub name_over : (file name : List ℕ) → 1000 < length name → reply.Refused BadArgument ≡ reply_of (answer_of (finding_in file name))
 unfolding finding_in
 name_over file name h = rw (lt-leb (length name) 1000 h)
 
 -- 64 slots: a file that is a snapshot is loaded
 abbrev loading_for : Option Ledger → Loading
-loading_for none = refusing 16
-loading_for (some l) = loading l
+loading_for None = refusing NoSnapshot
+loading_for (Some l) = loading l
 
 loads_all : (file : List ℕ) (o : Option Ledger) → parse_snapshot file ≡ o → loads 64 file ≡ loading_for o
-loads_all file none e = load_no_snapshot 64 file (λ z. omega arith) e
-loads_all file (some l) e = load_fits 64 file (λ z. omega arith) l e (parse_snapshot_lem file l e).few_nodes
+loads_all file None e = load_no_snapshot 64 file (λ z. omega arith) e
+loads_all file (Some l) e = load_fits 64 file (λ z. omega arith) l e (parse_snapshot_lem file l e).few_nodes
 
 module _ (file name : List ℕ) (h : length name ≤ 1000) (store state after exit : List ℕ) (n : length store ≡ 64 * 4096) (r : Reply)
     (q : Loads reply_of file (lent store state) r (lent after exit)) where
@@ -73,16 +74,16 @@ module _ (file name : List ℕ) (h : length name ≤ 1000) (store state after ex
       subst (λ (x : Loading). LoadsBy reply_of x (lent store state) r (lent after exit)) (ap (λ (k : ℕ). loads (slots_in k) file) n ∙ loads_all file o e) q
 
   -- 16
-  pub not_loaded : is_done r ≡ false → reply.Refused 16 ≡ reply_of (answer_of (finding_in file name))
+  pub not_loaded : is_done r ≡ false → reply.Refused NoSnapshot ≡ reply_of (answer_of (finding_in file name))
   not_loaded d = by (parse_snapshot file) refl (loaded_by (parse_snapshot file) refl)
     where
       by : (o : Option Ledger) → parse_snapshot file ≡ o → LoadsBy reply_of (loading_for o) (lent store state) r (lent after exit)
-          → reply.Refused 16 ≡ reply_of (answer_of (finding_in file name))
-      by none e x = sym (ap (λ (f : Finding). reply_of (answer_of f)) (name_fits file name h ∙ ap (finding_by name) e))
-      by (some l) e x = absurd (never (ap is_done x.told_is) d)
+          → reply.Refused NoSnapshot ≡ reply_of (answer_of (finding_in file name))
+      by None e x = sym (ap (λ (f : Finding). reply_of (answer_of f)) (name_fits file name h ∙ ap (finding_by name) e))
+      by (Some l) e x = absurd (never (ap is_done x.told_is) d)
 
   -- the ledger that the store then holds is the file's
-  report_told : (l : Ledger) → parse_snapshot file ≡ some l → held_by (lent after exit) ≡ some (loaded l)
+  report_told : (l : Ledger) → parse_snapshot file ≡ Some l → held_by (lent after exit) ≡ Some (loaded l)
       → (t : Reply) → Follows reply_of (asks (report name least greatest)) (lent after exit) t (lent after exit) → t ≡ reply_of (answer_of (finding_in file name))
   report_told l e k t f =
       let i = lent after exit in
@@ -99,5 +100,5 @@ module _ (file name : List ℕ) (h : length name ≤ 1000) (store state after ex
     where
       by : (o : Option Ledger) → parse_snapshot file ≡ o → LoadsBy reply_of (loading_for o) (lent store state) r (lent after exit)
           → t ≡ reply_of (answer_of (finding_in file name))
-      by none e x = absurd (never d (ap is_done x.0))
-      by (some l) e x = report_told l e x.holds t f
+      by None e x = absurd (never d (ap is_done x.0))
+      by (Some l) e x = report_told l e x.holds t f

@@ -2,19 +2,20 @@
 use mathlib.Core.Path.{◌≡◌, refl, sym, ap, ◌∙◌}
 use mathlib.Core.Bool.{Bool, true, false}
 use mathlib.Core.List.{List}
-use mathlib.Core.Option.{Option, some, none}
+use Rattle.std.proofs.Common.{Option, Some, None}
 use Prim.Native.Nat.{ℕ, ◌<◌}
 use native.Mathlib.Omega.{arith}
 use lib.Dec.{leb}
 use lib.ListN.{length, take}
 use lib.Seq.{length-take-le, take_all}
 use borrow.Author.Tests.{lt-leb, leb-true, leb-false}
+use Rattle.refusal.specs.declared.Refusal.TheVariants.{BadArgument}
 use Rattle.stream.specs.Ledger.{Ledger}
 use Rattle.snapshot.specs.Parse.{parse_snapshot}
 use Rattle.snapshot.proofs.Laws.{parse_snapshot_lem, snapshot_most}
 use Rattle.report.specs.Printed.{Finding, refusal, finding_in, texts_of, lines_of, printed}
 
-over_refused : (file name : List ℕ) → 1000 < length name → finding_in file name ≡ refusal 3
+over_refused : (file name : List ℕ) → 1000 < length name → finding_in file name ≡ refusal BadArgument
 unfolding finding_in
 over_refused file name h = rw (lt-leb (length name) 1000 h)
 
@@ -28,12 +29,12 @@ name_cut file name = by (leb (length name) 1001) refl
         over_refused file (take 1001 name) (omega (arith, length-take-le 1001 name (omega arith))) ∙ sym (over_refused file name (omega arith))
 
 -- the longest snapshot has 321,604 bytes at most
-too_long : (file : List ℕ) → 321604 < length file → parse_snapshot file ≡ none
+too_long : (file : List ℕ) → 321604 < length file → parse_snapshot file ≡ None
 too_long file h = by (parse_snapshot file) refl
   where
-    by : (o : Option Ledger) → parse_snapshot file ≡ o → o ≡ none
-    by none e = refl
-    by (some l) e = let s = parse_snapshot_lem file l e in absurd (omega (arith, snapshot_most l s.is_ledger_lem s.few_nodes, ap length s.bytes))
+    by : (o : Option Ledger) → parse_snapshot file ≡ o → o ≡ None
+    by None e = refl
+    by (Some l) e = let s = parse_snapshot_lem file l e in absurd (omega (arith, snapshot_most l s.is_ledger_lem s.few_nodes, ap length s.bytes))
 
 same_finding : (f g name : List ℕ) → parse_snapshot f ≡ parse_snapshot g → finding_in f name ≡ finding_in g name
 unfolding finding_in

@@ -1,12 +1,13 @@
 -- The texts of a finding are those of the engine's reply: every number fits. Assumes nothing.
 use mathlib.Core.Path.{◌≡◌, refl, ap, ap₂, ◌∙◌}
 use mathlib.Core.List.{List, ◌∷◌}
-use mathlib.Core.Option.{Option, some, none}
+use Rattle.std.proofs.Common.{Option, Some, None}
 use Prim.Native.Nat.{ℕ, ◌+◌, ◌-◌, ◌^◌, ◌≤◌, ◌<◌}
 use native.Mathlib.Omega.{arith}
 use lib.Dec.{leb}
 use lib.IntN.{ℤ, pos, negsuc, nat_abs}
 use lib.ListN.{length, take}
+use Rattle.refusal.specs.declared.Refusal.TheVariants.{BadArgument}
 use Rattle.octets.proofs.Laws.{pick_by, length_put, take_put_end}
 use Rattle.decimal.specs.Text.{natural_text, text_of}
 use Rattle.decimal.proofs.Laws.{text_plus, text_minus}
@@ -31,8 +32,8 @@ integer_text_lem (negsuc n) h = text_minus (2 ^ 64 - 1 - n) (n + 1) (omega arith
 -- a report's, where every number fits
 report_texts : (l o : ℕ) (x : Option Integers) → l + (o + how_many x) ≤ 6400 → Bounds x
     → reply_texts (reply_of (report_by l o x)) ≡ natural_text l ∷ (natural_text o ∷ integers_texts x)
-report_texts l o none h b = rw (text_plus l (omega arith), text_plus o (omega arith), text_plus 0 (omega arith))
-report_texts l o (some x) h b =
+report_texts l o None h b = rw (text_plus l (omega arith), text_plus o (omega arith), text_plus 0 (omega arith))
+report_texts l o (Some x) h b =
     rw (
       text_plus l (omega arith),
       text_plus o (omega arith),
@@ -43,14 +44,14 @@ report_texts l o (some x) h b =
     )
 
 -- a file has at most 6,400 messages
-few_messages : (file : List ℕ) (l : Ledger) → parse_snapshot file ≡ some l → length l.messages ≤ 6400
+few_messages : (file : List ℕ) (l : Ledger) → parse_snapshot file ≡ Some l → length l.messages ≤ 6400
 few_messages file l e =
     let s = parse_snapshot_lem file l e in
     omega (arith, most_messages 64 (loaded l) (fresh_model 64 l s.is_ledger_lem s.few_nodes) (omega arith), ap length (fresh_messages l.messages))
 
 finding_by_lem : (file name : List ℕ) (o : Option Ledger) → parse_snapshot file ≡ o → reply_texts (reply_of (answer_of (finding_by name o))) ≡ texts_of (finding_by name o)
-finding_by_lem file name none e = rw (text_plus 16 (omega arith))
-finding_by_lem file name (some l) e =
+finding_by_lem file name None e = rw (text_plus 16 (omega arith))
+finding_by_lem file name (Some l) e =
     let r : Report = report_on name no_messages l.messages in
     report_texts r.lacking r.other r.integers (omega (arith, counted_once name no_messages l.messages, few_messages file l e))
     (report_bounded name no_messages l.messages tt)
@@ -58,7 +59,7 @@ finding_by_lem file name (some l) e =
 pub finding_texts : (file name : List ℕ) → reply_texts (reply_of (answer_of (finding_in file name))) ≡ texts_of (finding_in file name)
 unfolding finding_in
 finding_texts file name =
-    pick_by (λ (x : Finding). reply_texts (reply_of (answer_of x)) ≡ texts_of x) (leb (length name) 1000) (finding_by name (parse_snapshot file)) (refusal 3)
+    pick_by (λ (x : Finding). reply_texts (reply_of (answer_of x)) ≡ texts_of x) (leb (length name) 1000) (finding_by name (parse_snapshot file)) (refusal BadArgument)
     (λ h. finding_by_lem file name (parse_snapshot file) refl)
     (λ h. rw (text_plus 3 (omega arith)))
 
@@ -68,8 +69,8 @@ texts_most (refusal n) = omega arith
 texts_most (found r) = by r.integers
   where
     by : (o : Option Integers) → length (natural_text r.lacking ∷ (natural_text r.other ∷ integers_texts o)) ≤ 6
-    by none = omega arith
-    by (some x) = omega arith
+    by None = omega arith
+    by (Some x) = omega arith
 
 -- the reply's texts, once they are written, are what is printed
 pub prints : {file name out after : List ℕ} {end : ℕ} {r : Reply} → 126 ≤ length out → r ≡ reply_of (answer_of (finding_in file name))

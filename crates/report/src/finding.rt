@@ -7,25 +7,13 @@ ghost use Rattle.report.specs.Printed.{finding_in};
 ghost use Rattle.report.specs.Written.{answer_of, is_done};
 
 use id::Id;
+use refusal::Refusal;
 use stream::Reply;
 
 fn is_done(r: Reply) -> bool
     ensures { result ≡ is_done r }
 {
-    match r {
-        Reply::Refused(_) => false,
-        Reply::Done => true,
-        Reply::Given(_) => false,
-        Reply::Counted(_) => false,
-        Reply::Written(_) => false,
-        Reply::Entry { .. } => false,
-        Reply::Reported { .. } => false,
-        Reply::NoIntegers { .. } => false,
-        Reply::Moved => false,
-        Reply::Nothing => false,
-        Reply::Absent => false,
-        Reply::NotMoved => false,
-    }
+    matches!(r, Reply::Done)
 }
 
 // With 64 slots load refuses with 16 alone: a snapshot has at most 64 nodes, so never with 17.
@@ -34,11 +22,11 @@ pub fn find(store: &mut [u8], state: &mut [u8], file: &[u8], name: &[u8]) -> Rep
     ensures { result ≡ reply_of (answer_of (finding_in file.now name.now)) }
 {
     if 1000 < name.len() {
-        return Reply::Refused(3);
+        return Reply::Refused(Refusal::BadArgument);
     }
     let loaded = stream_load::load(store, state, file);
     if !is_done(loaded) {
-        return Reply::Refused(16);
+        return Reply::Refused(Refusal::NoSnapshot);
     }
     stream_report::report(store, state, name, Id::LEAST, Id::GREATEST)
 }

@@ -60,7 +60,7 @@ pub fn file<R: Env + Files>(rt: &R, buf: &mut [u8]) -> usize
     }
 }
 
-// Until the buffer is full or the file ends, however few bytes come with each read, as from a pipe.
+// Until the buffer is full or the file ends, however few bytes come with each read, as from a pipe. A walk: how far a step goes is read.
 fn read_all<R: Read>(file: &mut R, buf: &mut [u8]) -> usize
     ensures { result ≤ length buf.new }
 {

@@ -1,4 +1,5 @@
-// The lines that are printed. The text of a number has at most 20 bytes, so a line has at most 21.
+// The lines that are printed. The text of a number has at most 20 bytes, so a line has at most 21. `decimal` writes it, whose text
+// specs/Printed names: `write!` would be no plainer, since its text would have to be proved the same.
 
 ghost use Rattle.std.specs.Prelude.{[], ◌∷◌, ◌+◌, ◌≤◌, length};
 ghost use Rattle.decimal.specs.Text.{text_of};
@@ -58,7 +59,7 @@ pub fn write(d: &mut [u8], r: Reply) -> usize
     ensures { Writes d.old 0 (reply_texts r) d.new result }
 {
     match r {
-        Reply::Refused(n) => number(d, 0, n as u64),
+        Reply::Refused(refusal) => number(d, 0, refusal.number() as u64),
         Reply::Reported {
             lacking,
             other,

@@ -2,7 +2,7 @@
 use mathlib.Core.Path.{◌≡◌, refl, ap, ◌∙◌}
 use mathlib.Core.Bool.{true}
 use mathlib.Core.List.{List, [], ◌∷◌, ◌++◌, append_assoc}
-use mathlib.Core.Option.{some}
+use Rattle.std.proofs.Common.{Some}
 use Prim.Native.Nat.{ℕ, zero, suc, ◌≤◌}
 use native.Mathlib.Omega.{arith}
 use lib.ListN.{length, length-append}
@@ -23,7 +23,7 @@ pub record AreEntries (n : ℕ) (i : Id) (s : List ℕ) (ms : List Message) (r :
   pub count : length ms ≡ n
   pub live : Bytes s → (are_live i ms ≡ true) × Bytes r
 
-pub entries_is : (n : ℕ) (i : Id) (s : List ℕ) (c : Got (List Message)) → cut_entries n i s ≡ some c → AreEntries n i s c.got c.rest
+pub entries_is : (n : ℕ) (i : Id) (s : List ℕ) (c : Got (List Message)) → cut_entries n i s ≡ Some c → AreEntries n i s c.got c.rest
 unfolding cut_entries entries are_live
 entries_is zero i s c e = rw (← some_is e) (record { text = refl; count = refl; live = λ b. (refl, b) })
 entries_is (suc n) i s c e =
@@ -47,7 +47,7 @@ live_first i m ms e =
     let z = both_true (is_message m) (fits_alone m) y.0 in
     (x.0, z.0, z.1, y.1)
 
-pub entries_here : (i : Id) (ms : List Message) (r : List ℕ) → are_live i ms ≡ true → cut_entries (length ms) i (entries ms ++ r) ≡ some (gives ms r)
+pub entries_here : (i : Id) (ms : List Message) (r : List ℕ) → are_live i ms ≡ true → cut_entries (length ms) i (entries ms ++ r) ≡ Some (gives ms r)
 unfolding cut_entries entries
 entries_here i [] r e = refl
 entries_here i (m ∷ ms) r e =

@@ -1,7 +1,7 @@
 -- Replies, their bytes, and what the strict reader makes of them, computed. Assumes nothing.
 use mathlib.Core.Path.{◌≡◌, refl}
 use mathlib.Core.List.{List, [], ◌∷◌, map}
-use mathlib.Core.Option.{some, none}
+use Rattle.std.proofs.Common.{Some, None}
 use Prim.Native.Nat.{ℕ}
 use Rattle.octets.specs.Bytes.{le}
 use Rattle.octets.specs.Compare.{same}
@@ -62,8 +62,8 @@ refused =
 
 pub record Computed : Type 0 where
   pub written : map (λ (r : Row). reply_bytes r.reply) table ≡ map (λ (r : Row). r.bytes) table
-  pub read : map (λ (r : Row). parse_reply r.bytes) table ≡ map (λ (r : Row). some r.reply) table
-  pub refuses : map parse_reply refused ≡ map (λ (s : List ℕ). none) refused
+  pub read : map (λ (r : Row). parse_reply r.bytes) table ≡ map (λ (r : Row). Some r.reply) table
+  pub refuses : map parse_reply refused ≡ map (λ (s : List ℕ). None) refused
 
 pub computed : Computed
 unfolding table refused range_bytes integer_bytes error_bytes entries entry opening bulks bulk id_text head parse_reply parse_range parse_integer parse_error cut_entries cut_entry cut_pairs cut_opening pairs_by id_in cut_bulk cut_head cut_number cut_digits cut_end cut_byte id_order fits_alone node_size node_bytes node_strings entries_strings entry_strings pair_strings master_strings live_in live_count deleted_count same_strings difference_of Listpack.listpack Listpack.header Listpack.elements element encode_item item_of integer_body text_head back_length fits narrow le pattern_of signed_of negative_of unsigned_of positive_of digits_after same text_of natural_text digits_of

@@ -2,7 +2,7 @@
 use mathlib.Core.Path.{◌≡◌, refl, sym, ap, ap₂, ◌∙◌}
 use mathlib.Core.Bool.{Bool, true, not}
 use mathlib.Core.List.{List, [], ◌∷◌, ◌++◌, append_assoc}
-use mathlib.Core.Option.{Option, some}
+use Rattle.std.proofs.Common.{Option, Some}
 use Prim.Native.Nat.{ℕ, zero, suc, ◌+◌, ◌-◌, ◌*◌, ◌^◌, ◌≤◌, ◌<◌}
 use native.Mathlib.Omega.{arith}
 use lib.Dec.{leb, ltb}
@@ -34,25 +34,25 @@ abbrev Reads : List ℕ → Got ℕ → Type 0
 Reads s c = (c.got < 2 ^ 64) × (s ≡ natural_text c.got ++ c.rest)
 
 -- the number ends here
-ends : (n : ℕ) (s : List ℕ) (c : Got ℕ) → n < 2 ^ 64 → some (gives n s) ≡ some c → Reads (natural_text n ++ s) c
+ends : (n : ℕ) (s : List ℕ) (c : Got ℕ) → n < 2 ^ 64 → Some (gives n s) ≡ Some c → Reads (natural_text n ++ s) c
 ends n s c k e = rw (← some_is e) (k, refl)
 
-digits_is : (n : ℕ) (s : List ℕ) (c : Got ℕ) → 1 ≤ n → n < 2 ^ 64 → cut_digits n s ≡ some c → Reads (natural_text n ++ s) c
+digits_is : (n : ℕ) (s : List ℕ) (c : Got ℕ) → 1 ≤ n → n < 2 ^ 64 → cut_digits n s ≡ Some c → Reads (natural_text n ++ s) c
 unfolding cut_digits
 digits_is n [] c h k e = ends n [] c k e
 digits_is n (b ∷ s) c h k e =
-    let P : Option (Got ℕ) → Type 0 = λ o. o ≡ some c → Reads (natural_text n ++ (b ∷ s)) c in
+    let P : Option (Got ℕ) → Type 0 = λ o. o ≡ Some c → Reads (natural_text n ++ (b ∷ s)) c in
     pick_by P (is_digit b) _ _ (λ d e. needed (ltb (10 * n + (b - 48)) (2 ^ 64)) _ e λ l e.
     let x = between 48 b d in
     let y = ltb-true (10 * n + (b - 48)) (2 ^ 64) l in
     rw (text_grown n b s h x.0 x.1 y) (digits_is (10 * n + (b - 48)) s c (omega arith) y e))
     (λ d. ends n (b ∷ s) c k) e
 
-pub number_is : (s : List ℕ) (c : Got ℕ) → cut_number s ≡ some c → (c.got < 2 ^ 64) × (s ≡ natural_text c.got ++ c.rest)
+pub number_is : (s : List ℕ) (c : Got ℕ) → cut_number s ≡ Some c → (c.got < 2 ^ 64) × (s ≡ natural_text c.got ++ c.rest)
 unfolding cut_number
 number_is [] c e = absurd (let z : ◌≡◌ {A = ℕ} 0 1 = cc in omega arith)
 number_is (b ∷ s) c e =
-    let P : Option (Got ℕ) → Type 0 = λ o. o ≡ some c → Reads (b ∷ s) c in
+    let P : Option (Got ℕ) → Type 0 = λ o. o ≡ Some c → Reads (b ∷ s) c in
     pick_eq P b 48 _ _ (λ q e. rw (first 0 b s (omega arith) q) (ends 0 s c (omega arith) e))
     (λ h e. needed (both (leb 49 b) (leb b 57)) _ e λ d e.
     let x = between 49 b d in
@@ -63,12 +63,12 @@ abbrev pub no_digit : List ℕ → Bool
 no_digit [] = true
 no_digit (b ∷ s) = not (is_digit b)
 
-digits_end : (n : ℕ) (r : List ℕ) → no_digit r ≡ true → cut_digits n r ≡ some (gives n r)
+digits_end : (n : ℕ) (r : List ℕ) → no_digit r ≡ true → cut_digits n r ≡ Some (gives n r)
 unfolding cut_digits
 digits_end n [] e = refl
 digits_end n (b ∷ r) e = rw (not-true (is_digit b) e)
 
-digits_here : (n m : ℕ) (s r : List ℕ) → m < 2 ^ 64 → no_digit r ≡ true → digits_after n s ≡ some m → cut_digits n (s ++ r) ≡ some (gives m r)
+digits_here : (n m : ℕ) (s r : List ℕ) → m < 2 ^ 64 → no_digit r ≡ true → digits_after n s ≡ Some m → cut_digits n (s ++ r) ≡ Some (gives m r)
 unfolding cut_digits digits_after
 digits_here n m [] r h k e = rw (← some_is e) (digits_end n r k)
 digits_here n m (b ∷ s) r h k e =
@@ -76,14 +76,14 @@ digits_here n m (b ∷ s) r h k e =
     let x : ℕ = 10 * n + (b - 48) in
     simp (le-leb 48 b d.0, le-leb b 57 d.1, lt-ltb x (2 ^ 64) (omega (arith, after_grows m x s d.2))) (digits_here x m s r h k d.2)
 
-positive_here : (m : ℕ) (s r : List ℕ) → m < 2 ^ 64 → no_digit r ≡ true → positive_of s ≡ some m → cut_number (s ++ r) ≡ some (gives m r)
+positive_here : (m : ℕ) (s r : List ℕ) → m < 2 ^ 64 → no_digit r ≡ true → positive_of s ≡ Some m → cut_number (s ++ r) ≡ Some (gives m r)
 unfolding cut_number positive_of
 positive_here m [] r h k e = absurd (let z : ◌≡◌ {A = ℕ} 0 1 = cc in omega arith)
 positive_here m (b ∷ s) r h k e =
     let d = digit 49 b _ m e in
     simp (ne_eqb b 48 (omega arith), le-leb 49 b d.0, le-leb b 57 d.1) (digits_here (b - 48) m s r h k d.2)
 
-pub number_here : (n : ℕ) (r : List ℕ) → n < 2 ^ 64 → no_digit r ≡ true → cut_number (natural_text n ++ r) ≡ some (gives n r)
+pub number_here : (n : ℕ) (r : List ℕ) → n < 2 ^ 64 → no_digit r ≡ true → cut_number (natural_text n ++ r) ≡ Some (gives n r)
 unfolding cut_number
 number_here zero r h k = rw (natural_one 0 (omega arith))
 number_here (suc n) r h k = positive_here (suc n) (natural_text (suc n)) r h k (text_positive (suc n) (omega arith) h)

@@ -2,7 +2,7 @@
 use mathlib.Core.Path.{◌≡◌, refl, sym, ap, ap₂, ◌∙◌}
 use mathlib.Core.Bool.{true}
 use mathlib.Core.List.{List, [], ◌∷◌, ◌++◌, append_assoc}
-use mathlib.Core.Option.{some}
+use Rattle.std.proofs.Common.{Some}
 use Prim.Native.Nat.{ℕ, zero, suc, ◌*◌, ◌/◌, ◌≤◌}
 use native.Mathlib.Omega.{arith}
 use lib.Dec.{leb, eqb}
@@ -23,7 +23,7 @@ use Rattle.resp.specs.Reply.{head, bulk, id_text, bulks, opening, entry}
 use Rattle.resp.specs.Parse.{Got, gives, Opening, opening_of, cut_head, cut_bulk, id_in, pairs_by, cut_opening, cut_pairs, cut_entry}
 use Rattle.resp.proofs.Parts.{head_is, bulk_is, id_is, bytes_parts, bulk_bytes, head_here, bulk_here, id_here}
 
-pairs_by_is : (n k : ℕ) → pairs_by n ≡ some k → (n ≡ 2 * k) × (is_pair_count k ≡ true)
+pairs_by_is : (n k : ℕ) → pairs_by n ≡ Some k → (n ≡ 2 * k) × (is_pair_count k ≡ true)
 unfolding pairs_by
 pairs_by_is n k e =
     needed (eqb (2 * (n / 2)) n) _ e λ p e. needed (is_pair_count (n / 2)) _ e λ q e.
@@ -35,7 +35,7 @@ pub record IsOpening (s : List ℕ) (i : Id) (n : ℕ) (r : List ℕ) : Type 0 w
   pub count : is_pair_count n ≡ true
   pub id : is_id i ≡ true
 
-pub opening_is : (s : List ℕ) (c : Got Opening) → cut_opening s ≡ some c → IsOpening s c.got.id c.got.pairs c.rest
+pub opening_is : (s : List ℕ) (c : Got Opening) → cut_opening s ≡ Some c → IsOpening s c.got.id c.got.pairs c.rest
 unfolding cut_opening opening
 opening_is s c e =
     answered (cut_head 42 s) _ e λ two p e. needed (eqb two.got 2) _ e λ t e. answered (cut_bulk two.rest) _ e λ x q e.
@@ -56,7 +56,7 @@ pub record ArePairs (n : ℕ) (s : List ℕ) (ps : List Pair) (r : List ℕ) : T
   pub count : length ps ≡ n
   pub strings : Bytes s → (are_strings ps ≡ true) × Bytes r
 
-pub pairs_is : (n : ℕ) (s : List ℕ) (c : Got (List Pair)) → cut_pairs n s ≡ some c → ArePairs n s c.got c.rest
+pub pairs_is : (n : ℕ) (s : List ℕ) (c : Got (List Pair)) → cut_pairs n s ≡ Some c → ArePairs n s c.got c.rest
 unfolding cut_pairs bulks are_strings
 pairs_is zero s c e = rw (← some_is e) (record { text = refl; count = refl; strings = λ b. (refl, b) })
 pairs_is (suc n) s c e =
@@ -73,7 +73,7 @@ pairs_is (suc n) s c e =
     x.1 ∙ ap (λ (l : List ℕ). bulk f.got ++ l) (y.1 ∙ ap (λ (l : List ℕ). bulk v.got ++ l) z.text) in
     rw (← some_is e) (record { text = rw (append_assoc, append_assoc) text; count = ap suc z.count; strings = strings })
 
-pub entry_is : (s : List ℕ) (c : Got Message) → cut_entry s ≡ some c
+pub entry_is : (s : List ℕ) (c : Got Message) → cut_entry s ≡ Some c
     → (s ≡ entry c.got ++ c.rest) × (fits_alone c.got ≡ true) × (Bytes s → (is_message c.got ≡ true) × Bytes c.rest)
 unfolding cut_entry entry is_message are_pairs
 entry_is s c e =
@@ -95,13 +95,13 @@ unfolding id_text
 id_short i =
     omega (arith, length-append (natural_text i.ms) (45 ∷ natural_text i.seq), length_natural i.ms, length_natural i.seq)
 
-pairs_by_here : (n : ℕ) → is_pair_count n ≡ true → pairs_by (2 * n) ≡ some n
+pairs_by_here : (n : ℕ) → is_pair_count n ≡ true → pairs_by (2 * n) ≡ Some n
 unfolding pairs_by
 pairs_by_here n e =
     let q : 2 * n / 2 ≡ n = omega arith in
     rw (q, eq-eqb (2 * n) (2 * n) refl, e)
 
-pub opening_here : (i : Id) (n : ℕ) (r : List ℕ) → is_id i ≡ true → is_pair_count n ≡ true → cut_opening (opening i n ++ r) ≡ some (gives (opening_of i n) r)
+pub opening_here : (i : Id) (n : ℕ) (r : List ℕ) → is_id i ≡ true → is_pair_count n ≡ true → cut_opening (opening i n ++ r) ≡ Some (gives (opening_of i n) r)
 unfolding cut_opening opening
 opening_here i n r e c =
     let few = leb-true n 32 (both_true (leb 1 n) (leb n 32) c).1 in
@@ -115,7 +115,7 @@ opening_here i n r e c =
       pairs_by_here n c,
     )
 
-pub pairs_here : (ps : List Pair) (r : List ℕ) → are_strings ps ≡ true → cut_pairs (length ps) (bulks ps ++ r) ≡ some (gives ps r)
+pub pairs_here : (ps : List Pair) (r : List ℕ) → are_strings ps ≡ true → cut_pairs (length ps) (bulks ps ++ r) ≡ Some (gives ps r)
 unfolding cut_pairs bulks
 pairs_here [] r e = refl
 pairs_here (p ∷ ps) r e =
@@ -128,7 +128,7 @@ pairs_here (p ∷ ps) r e =
       pairs_here ps r x.2,
     )
 
-pub entry_here : (m : Message) (r : List ℕ) → is_message m ≡ true → fits_alone m ≡ true → cut_entry (entry m ++ r) ≡ some (gives m r)
+pub entry_here : (m : Message) (r : List ℕ) → is_message m ≡ true → fits_alone m ≡ true → cut_entry (entry m ++ r) ≡ Some (gives m r)
 unfolding cut_entry entry is_message are_pairs
 entry_here m r e f =
     let x = both_true (is_id m.id) (both (is_pair_count (length m.pairs)) (are_strings m.pairs)) e in

@@ -3,7 +3,7 @@
 use mathlib.Core.Path.{◌≡◌, refl, sym, ap, ◌∙◌}
 use mathlib.Core.Bool.{true}
 use mathlib.Core.List.{List, [], ◌∷◌, ◌++◌, append_assoc, append-nil}
-use mathlib.Core.Option.{some}
+use Rattle.std.proofs.Common.{Some}
 use Prim.Native.Nat.{ℕ, ◌^◌, ◌≤◌, ◌<◌}
 use native.Mathlib.Omega.{arith}
 use lib.Dec.{leb, eqb}
@@ -20,16 +20,16 @@ use Rattle.resp.specs.Reply.{crlf, head, bulk, id_text}
 use Rattle.resp.specs.Parse.{Got, gives, cut_byte, cut_end, cut_number, cut_head, cut_bulk, id_in}
 use Rattle.resp.proofs.Numbers.{number_is, number_here}
 
-pub byte_is : (b : ℕ) (s r : List ℕ) → cut_byte b s ≡ some r → s ≡ b ∷ r
+pub byte_is : (b : ℕ) (s r : List ℕ) → cut_byte b s ≡ Some r → s ≡ b ∷ r
 unfolding cut_byte
 byte_is b [] r e = absurd (let z : ◌≡◌ {A = ℕ} 0 1 = cc in omega arith)
 byte_is b (x ∷ s) r e = needed (eqb x b) _ e λ p e. let q = eqb-true x b p in let t = some_is e in cc
 
-pub end_is : (s r : List ℕ) → cut_end s ≡ some r → s ≡ crlf ++ r
+pub end_is : (s r : List ℕ) → cut_end s ≡ Some r → s ≡ crlf ++ r
 unfolding cut_end
 end_is s r e = answered (cut_byte 13 s) _ e λ t p e. byte_is 13 s t p ∙ ap (λ (l : List ℕ). 13 ∷ l) (byte_is 10 t r e)
 
-pub head_is : (b : ℕ) (s : List ℕ) (c : Got ℕ) → cut_head b s ≡ some c → (c.got < 2 ^ 64) × (s ≡ head b c.got ++ c.rest)
+pub head_is : (b : ℕ) (s : List ℕ) (c : Got ℕ) → cut_head b s ≡ Some c → (c.got < 2 ^ 64) × (s ≡ head b c.got ++ c.rest)
 unfolding cut_head head
 head_is b s c e =
     answered (cut_byte b s) _ e λ r p e. answered (cut_number r) _ e λ n q e. answered (cut_end n.rest) _ e λ t u e.
@@ -44,7 +44,7 @@ head_is b s c e =
 string_there : (n : ℕ) (s t : List ℕ) → drop n s ≡ crlf ++ t → (length (take n s) ≡ n) × (s ≡ take n s ++ (crlf ++ t))
 string_there n s t e = (length-take-le n s (omega (arith, length-drop n s, ap length e)), sym (take-append-drop n s) ∙ ap (λ (l : List ℕ). take n s ++ l) e)
 
-pub bulk_is : (s : List ℕ) (c : Got (List ℕ)) → cut_bulk s ≡ some c → (length c.got ≤ 1000) × (s ≡ bulk c.got ++ c.rest)
+pub bulk_is : (s : List ℕ) (c : Got (List ℕ)) → cut_bulk s ≡ Some c → (length c.got ≤ 1000) × (s ≡ bulk c.got ++ c.rest)
 unfolding cut_bulk bulk
 bulk_is s c e =
     answered (cut_head 36 s) _ e λ n p e. needed (leb n.got 1000) _ e λ h e. answered (cut_end (drop n.got n.rest)) _ e λ t q e.
@@ -70,7 +70,7 @@ pub nothing_left : (s : List ℕ) → eqb (length s) 0 ≡ true → s ≡ []
 nothing_left [] e = refl
 nothing_left (x ∷ s) e = absurd (omega (arith, eqb-true (length (x ∷ s)) 0 e))
 
-pub id_is : (s : List ℕ) (i : Id) → id_in s ≡ some i → (is_id i ≡ true) × (s ≡ id_text i)
+pub id_is : (s : List ℕ) (i : Id) → id_in s ≡ Some i → (is_id i ≡ true) × (s ≡ id_text i)
 unfolding id_in id_text
 id_is s i e =
     answered (cut_number s) _ e λ ms p e. answered (cut_byte 45 ms.rest) _ e λ r q e. answered (cut_number r) _ e λ seq u e.
@@ -83,26 +83,26 @@ id_is s i e =
       x.1 ∙ ap (λ (l : List ℕ). natural_text ms.got ++ l) (byte_is 45 ms.rest r q ∙ ap (λ (l : List ℕ). 45 ∷ l) v),
     )
 
-pub byte_here : (b : ℕ) (r : List ℕ) → cut_byte b (b ∷ r) ≡ some r
+pub byte_here : (b : ℕ) (r : List ℕ) → cut_byte b (b ∷ r) ≡ Some r
 unfolding cut_byte
 byte_here b r = rw (eq-eqb b b refl)
 
-pub end_here : (r : List ℕ) → cut_end (crlf ++ r) ≡ some r
+pub end_here : (r : List ℕ) → cut_end (crlf ++ r) ≡ Some r
 unfolding cut_end cut_byte
 end_here r = refl
 
-pub head_here : (b n : ℕ) (r : List ℕ) → n < 2 ^ 64 → cut_head b (head b n ++ r) ≡ some (gives n r)
+pub head_here : (b n : ℕ) (r : List ℕ) → n < 2 ^ 64 → cut_head b (head b n ++ r) ≡ Some (gives n r)
 unfolding cut_head head
 head_here b n r h = rw (byte_here, append_assoc, number_here n (crlf ++ r) h refl, end_here)
 
-pub bulk_here : (x r : List ℕ) → length x ≤ 1000 → cut_bulk (bulk x ++ r) ≡ some (gives x r)
+pub bulk_here : (x r : List ℕ) → length x ≤ 1000 → cut_bulk (bulk x ++ r) ≡ Some (gives x r)
 unfolding cut_bulk bulk
 bulk_here x r h =
     rw (append_assoc, append_assoc, head_here 36 (length x) (x ++ (crlf ++ r)) (omega arith), le-leb (length x) 1000 h, drop-append_seam, end_here, take-append_seam)
 
-pub id_here : (i : Id) → is_id i ≡ true → id_in (id_text i) ≡ some i
+pub id_here : (i : Id) → is_id i ≡ true → id_in (id_text i) ≡ Some i
 unfolding id_in id_text
 id_here i e =
     let f = id_fits i e in
-    let last : cut_number (natural_text i.seq) ≡ some (gives i.seq []) = rw append-nil at (number_here i.seq [] f.seq_fits refl) in
+    let last : cut_number (natural_text i.seq) ≡ Some (gives i.seq []) = rw append-nil at (number_here i.seq [] f.seq_fits refl) in
     rw (number_here i.ms (45 ∷ natural_text i.seq) f.ms_fits refl, byte_here, last)

@@ -2,7 +2,7 @@
 use mathlib.Core.Path.{◌≡◌, ap, ◌∙◌}
 use mathlib.Core.Bool.{true}
 use mathlib.Core.List.{List, [], ◌∷◌, ◌++◌, append-nil}
-use mathlib.Core.Option.{Option, some}
+use Rattle.std.proofs.Common.{Option, Some}
 use Prim.Native.Nat.{ℕ, ◌^◌, ◌<◌}
 use native.Mathlib.Omega.{arith}
 use lib.Dec.{leb, eqb}
@@ -22,10 +22,10 @@ abbrev IsReply : List ℕ → Reply → Type 0
 IsReply s x = (s ≡ reply_bytes x) × (is_reply x ≡ true)
 
 -- a head that ends exactly at the end
-head_last : (b : ℕ) (s : List ℕ) (n : Got ℕ) → cut_head b s ≡ some n → eqb (length n.rest) 0 ≡ true → s ≡ head b n.got
+head_last : (b : ℕ) (s : List ℕ) (n : Got ℕ) → cut_head b s ≡ Some n → eqb (length n.rest) 0 ≡ true → s ≡ head b n.got
 head_last b s n p z = (head_is b s n p).1 ∙ ap (λ (l : List ℕ). head b n.got ++ l) (nothing_left n.rest z) ∙ append-nil (head b n.got)
 
-range_is : (s : List ℕ) (x : Reply) → Bytes s → parse_range s ≡ some x → IsReply s x
+range_is : (s : List ℕ) (x : Reply) → Bytes s → parse_range s ≡ Some x → IsReply s x
 unfolding parse_range range_bytes
 range_is s x b e =
     answered (cut_head 42 s) _ e λ n p e. answered (cut_entries n.got least n.rest) _ e λ ms q e. needed (eqb (length ms.rest) 0) _ e λ z e.
@@ -35,13 +35,13 @@ range_is s x b e =
     let bytes = (bytes_parts (head 42 n.got) n.rest (rw h at b)).1 in
     rw (← some_is e) (rw y.count (h ∙ ap (λ (l : List ℕ). head 42 n.got ++ l) t), (y.live bytes).0)
 
-integer_is : (s : List ℕ) (x : Reply) → parse_integer s ≡ some x → IsReply s x
+integer_is : (s : List ℕ) (x : Reply) → parse_integer s ≡ Some x → IsReply s x
 unfolding parse_integer integer_bytes
 integer_is s x e =
     answered (cut_head 58 s) _ e λ n p e. needed (is_count n.got) _ e λ q e. needed (eqb (length n.rest) 0) _ e λ z e.
     rw (← some_is e) (head_last 58 s n p z, q)
 
-error_is : (s : List ℕ) (x : Reply) → parse_error s ≡ some x → IsReply s x
+error_is : (s : List ℕ) (x : Reply) → parse_error s ≡ Some x → IsReply s x
 unfolding parse_error error_bytes
 error_is s x e =
     answered (cut_byte 45 s) _ e λ a p e. answered (cut_byte 69 a) _ e λ b q e. answered (cut_byte 82 b) _ e λ c u e. answered (cut_byte 82 c) _ e λ d v e.
@@ -49,34 +49,34 @@ error_is s x e =
     let t : s ≡ 45 ∷ 69 ∷ 82 ∷ 82 ∷ head 32 n.got = cc (byte_is 45 s a p, byte_is 69 a b q, byte_is 82 b c u, byte_is 82 c d v, head_last 32 d n w z) in
     rw (← some_is e) (t, y)
 
-pub reply_is : (s : List ℕ) (x : Reply) → Bytes s → parse_reply s ≡ some x → (s ≡ reply_bytes x) × (is_reply x ≡ true)
+pub reply_is : (s : List ℕ) (x : Reply) → Bytes s → parse_reply s ≡ Some x → (s ≡ reply_bytes x) × (is_reply x ≡ true)
 unfolding parse_reply
 reply_is s x b e =
-    let P : Option Reply → Type 0 = λ o. o ≡ some x → IsReply s x in
+    let P : Option Reply → Type 0 = λ o. o ≡ Some x → IsReply s x in
     pick_eq P (get_or s 0 0) 42 _ _ (λ h. range_is s x b) (λ h. pick_eq P (get_or s 0 0) 58 _ _ (λ k. integer_is s x) (λ k. error_is s x)) e
 
 -- a head that nothing follows is read
-last_here : (b n : ℕ) → n < 2 ^ 64 → cut_head b (head b n) ≡ some (gives n [])
+last_here : (b n : ℕ) → n < 2 ^ 64 → cut_head b (head b n) ≡ Some (gives n [])
 last_here b n h = rw append-nil at (head_here b n [] h)
 
 -- a range, by how many messages it has
-pub range_here : (ms : List Message) → length ms < 2 ^ 64 → are_live least ms ≡ true → parse_reply (range_bytes ms) ≡ some (range ms)
+pub range_here : (ms : List Message) → length ms < 2 ^ 64 → are_live least ms ≡ true → parse_reply (range_bytes ms) ≡ Some (range ms)
 unfolding parse_reply parse_range range_bytes head
 range_here ms h e =
-    let all : cut_entries (length ms) least (entries ms) ≡ some (gives ms []) = rw append-nil at (entries_here least ms [] e) in
+    let all : cut_entries (length ms) least (entries ms) ≡ Some (gives ms []) = rw append-nil at (entries_here least ms [] e) in
     rw (head_here 42 (length ms) (entries ms) h, all)
 
-integer_here : (n : ℕ) → is_count n ≡ true → parse_integer (integer_bytes n) ≡ some (integer n)
+integer_here : (n : ℕ) → is_count n ≡ true → parse_integer (integer_bytes n) ≡ Some (integer n)
 unfolding parse_integer integer_bytes
 integer_here n e = rw (last_here 58 n (omega (arith, leb-true n 6400 e)), e)
 
-error_here : (n : ℕ) → is_refusal_number n ≡ true → parse_error (error_bytes n) ≡ some (error n)
+error_here : (n : ℕ) → is_refusal_number n ≡ true → parse_error (error_bytes n) ≡ Some (error n)
 unfolding parse_error error_bytes
 error_here n e =
     let few : n < 2 ^ 64 = omega (arith, leb-true n 18 (both_true (leb 1 n) (leb n 18) e).1) in
     rw (byte_here, byte_here, byte_here, byte_here, last_here 32 n few, e)
 
-pub reply_here : (x : Reply) → length (reply_bytes x) < 2 ^ 64 → is_reply x ≡ true → parse_reply (reply_bytes x) ≡ some x
+pub reply_here : (x : Reply) → length (reply_bytes x) < 2 ^ 64 → is_reply x ≡ true → parse_reply (reply_bytes x) ≡ Some x
 unfolding parse_reply range_bytes integer_bytes error_bytes head
 reply_here (range ms) h e = range_here ms (omega (arith, entries_few ms, length-append (head 42 (length ms)) (entries ms))) e
 reply_here (integer n) h e = integer_here n e

@@ -6,12 +6,13 @@ use Prim.Native.Nat.{ℕ, ◌+◌, ◌≤◌, ◌<◌}
 use native.Mathlib.Omega.{arith}
 use borrow.Author.Tests.{le-leb, lt-leb}
 use lib.ListN.{length, set, length-append, length-set}
+use Rattle.std.proofs.Common.{Ok, Err}
+use Rattle.refusal.specs.declared.Refusal.TheVariants.{BadArgument, ShortOutput}
 use Rattle.octets.specs.Place.{put}
 use Rattle.octets.proofs.Laws.{put_first, put_append, length_put, both_of}
 use Rattle.decimal.specs.Text.{natural_text}
 use Rattle.resp.specs.Reply.{crlf, head, integer_bytes, error_bytes, is_refusal_number}
 use Rattle.resp.specs.Answer.{replied_by, output_by}
-use Rattle.resp.specs.declared.Replied.TheVariants.{Written, Refused}
 
 pub length_head : (b n : ℕ) → length (head b n) ≡ 3 + length (natural_text n)
 unfolding head
@@ -61,15 +62,15 @@ none_high n h = simp (le-leb 1 n (omega arith), lt-leb n 18 h)
 
 -- a reply, or its refusals
 module _ (rule : Bool) (bs out : List ℕ) where
-  pub replied_other : rule ≡ false → (Refused 3 ≡ replied_by rule bs (length out)) × (out ≡ output_by rule bs out)
+  pub replied_other : rule ≡ false → (Err BadArgument ≡ replied_by rule bs (length out)) × (out ≡ output_by rule bs out)
   unfolding replied_by output_by
   replied_other e = (simp e, simp e)
 
-  pub replied_short : rule ≡ true → length out < length bs → (Refused 8 ≡ replied_by rule bs (length out)) × (out ≡ output_by rule bs out)
+  pub replied_short : rule ≡ true → length out < length bs → (Err ShortOutput ≡ replied_by rule bs (length out)) × (out ≡ output_by rule bs out)
   unfolding replied_by output_by
   replied_short e h = (simp (e, lt-leb (length bs) (length out) h), simp (e, lt-leb (length bs) (length out) h))
 
   pub replied : rule ≡ true → length bs ≤ length out → (n : ℕ) (d : List ℕ) → n ≡ length bs → d ≡ put out 0 bs
-      → (Written n ≡ replied_by rule bs (length out)) × (d ≡ output_by rule bs out)
+      → (Ok n ≡ replied_by rule bs (length out)) × (d ≡ output_by rule bs out)
   unfolding replied_by output_by
-  replied e h n d p q = (ap Written p ∙ simp (e, le-leb (length bs) (length out) h), q ∙ simp (e, le-leb (length bs) (length out) h))
+  replied e h n d p q = (ap Ok p ∙ simp (e, le-leb (length bs) (length out) h), q ∙ simp (e, le-leb (length bs) (length out) h))

@@ -1,7 +1,6 @@
 -- The strict reader, from the left: each part is what was got and the bytes after it, or none. That it accepts exactly what is written is
 -- the law of proofs/Laws (reply_here, reply_is). Assumes nothing.
-use Rattle.std.specs.Prelude.{List, [], ◌∷◌, ℕ, zero, suc, ◌+◌, ◌-◌, ◌*◌, ◌/◌, ◌^◌, leb, ltb, eqb, length, take, drop, get_or}
-use Rattle.std.proofs.Math.Option.{Option, some, none}
+use Rattle.std.specs.Prelude.{List, [], ◌∷◌, ℕ, zero, suc, ◌+◌, ◌-◌, ◌*◌, ◌/◌, ◌^◌, leb, ltb, eqb, length, take, drop, get_or, Option, Some, None}
 use Rattle.octets.specs.Pick.{pick, both}
 use Rattle.octets.specs.Maybe.{◌>>=◌, ◌>>◌, need}
 use Rattle.decimal.specs.Integer.{is_digit}
@@ -20,10 +19,10 @@ gives a s = record { got = a; rest = s }
 
 -- a byte that must be there, and CR LF
 unfoldable pub cut_byte : ℕ → List ℕ → Option (List ℕ)
-cut_byte b [] = none
+cut_byte b [] = None
 cut_byte b (x ∷ s) = do
   need (eqb x b)
-  some s
+  Some s
 
 unfoldable pub cut_end : List ℕ → Option (List ℕ)
 cut_end s = do
@@ -32,19 +31,19 @@ cut_end s = do
 
 -- the digits that follow those of n, as many as stand there; a number is below 2^64
 unfoldable pub cut_digits : ℕ → List ℕ → Option (Got ℕ)
-cut_digits n [] = some (gives n [])
+cut_digits n [] = Some (gives n [])
 cut_digits n (b ∷ s) =
     pick (is_digit b)
     (do
       need (ltb (10 * n + (b - 48)) (2 ^ 64))
       cut_digits (10 * n + (b - 48)) s)
-    (some (gives n (b ∷ s)))
+    (Some (gives n (b ∷ s)))
 
 -- 0, or a digit 1-9 and the digits after it
 unfoldable pub cut_number : List ℕ → Option (Got ℕ)
-cut_number [] = none
+cut_number [] = None
 cut_number (b ∷ s) =
-    pick (eqb b 48) (some (gives 0 s))
+    pick (eqb b 48) (Some (gives 0 s))
     (do
       need (both (leb 49 b) (leb b 57))
       cut_digits (b - 48) s)
@@ -54,7 +53,7 @@ cut_head b s = do
   r ← cut_byte b s
   n ← cut_number r
   t ← cut_end n.rest
-  some (gives n.got t)
+  Some (gives n.got t)
 
 -- at most 1,000 bytes; that they are there follows from the CR LF after them
 unfoldable pub cut_bulk : List ℕ → Option (Got (List ℕ))
@@ -62,7 +61,7 @@ cut_bulk s = do
   n ← cut_head 36 s
   need (leb n.got longest_string)
   t ← cut_end (drop n.got n.rest)
-  some (gives (take n.got n.rest) t)
+  Some (gives (take n.got n.rest) t)
 
 -- an ID that ends exactly at the end
 unfoldable pub id_in : List ℕ → Option Id
@@ -71,7 +70,7 @@ id_in s = do
   r ← cut_byte 45 ms.rest
   seq ← cut_number r
   need (eqb (length seq.rest) 0)
-  some (id_of ms.got seq.got)
+  Some (id_of ms.got seq.got)
 
 -- what stands before the pairs of an entry: its ID, and how many pairs there are
 pub record Opening : Type 0 where
@@ -86,7 +85,7 @@ unfoldable pub pairs_by : ℕ → Option ℕ
 pairs_by n = do
   need (eqb (2 * (n / 2)) n)
   need (is_pair_count (n / 2))
-  some (n / 2)
+  Some (n / 2)
 
 unfoldable pub cut_opening : List ℕ → Option (Got Opening)
 cut_opening s = do
@@ -96,15 +95,15 @@ cut_opening s = do
   i ← id_in x.got
   n ← cut_head 42 x.rest
   k ← pairs_by n.got
-  some (gives (opening_of i k) n.rest)
+  Some (gives (opening_of i k) n.rest)
 
 unfoldable pub cut_pairs : ℕ → List ℕ → Option (Got (List Pair))
-cut_pairs zero s = some (gives [] s)
+cut_pairs zero s = Some (gives [] s)
 cut_pairs (suc n) s = do
   f ← cut_bulk s
   v ← cut_bulk f.rest
   ps ← cut_pairs n v.rest
-  some (gives (pair f.got v.got ∷ ps.got) ps.rest)
+  Some (gives (pair f.got v.got ∷ ps.got) ps.rest)
 
 -- alone a node of at most 4,095 bytes
 unfoldable pub cut_entry : List ℕ → Option (Got Message)
@@ -112,16 +111,16 @@ cut_entry s = do
   o ← cut_opening s
   ps ← cut_pairs o.got.pairs o.rest
   need (fits_alone (message o.got.id ps.got))
-  some (gives (message o.got.id ps.got) ps.rest)
+  Some (gives (message o.got.id ps.got) ps.rest)
 
 -- so many entries, IDs rising from above i
 unfoldable pub cut_entries : ℕ → Id → List ℕ → Option (Got (List Message))
-cut_entries zero i s = some (gives [] s)
+cut_entries zero i s = Some (gives [] s)
 cut_entries (suc n) i s = do
   m ← cut_entry s
   need (below i m.got.id)
   ms ← cut_entries n m.got.id m.rest
-  some (gives (m.got ∷ ms.got) ms.rest)
+  Some (gives (m.got ∷ ms.got) ms.rest)
 
 -- ending exactly at the end
 unfoldable pub parse_range : List ℕ → Option Reply
@@ -129,14 +128,14 @@ parse_range s = do
   n ← cut_head 42 s
   ms ← cut_entries n.got least n.rest
   need (eqb (length ms.rest) 0)
-  some (range ms.got)
+  Some (range ms.got)
 
 unfoldable pub parse_integer : List ℕ → Option Reply
 parse_integer s = do
   n ← cut_head 58 s
   need (is_count n.got)
   need (eqb (length n.rest) 0)
-  some (integer n.got)
+  Some (integer n.got)
 
 unfoldable pub parse_error : List ℕ → Option Reply
 parse_error s = do
@@ -147,7 +146,7 @@ parse_error s = do
   n ← cut_head 32 d
   need (is_refusal_number n.got)
   need (eqb (length n.rest) 0)
-  some (error n.got)
+  Some (error n.got)
 
 -- by its first byte
 unfoldable pub parse_reply : List ℕ → Option Reply

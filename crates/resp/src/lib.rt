@@ -8,6 +8,8 @@ ghost use Rattle.octets.specs.Place.{put};
 ghost use Rattle.resp.specs.Reply.{crlf, head, integer_bytes, error_bytes, is_count, is_refusal_number};
 ghost use Rattle.resp.specs.Answer.{replied_by, output_by};
 
+use refusal::Refusal;
+
 // The bytes that say what a part is.
 pub const ARRAY: u8 = b'*';
 
@@ -16,13 +18,6 @@ pub const BULK: u8 = b'$';
 pub const INTEGER: u8 = b':';
 
 pub const ERROR: u8 = b'-';
-
-// How many bytes were written; or a refusal.
-#[derive(Clone, Copy)]
-pub enum Replied {
-    Written(usize),
-    Refused(u32),
-}
 
 // CR LF; the answer is the place after it.
 pub fn write_end(d: &mut [u8], at: usize) -> usize
@@ -52,34 +47,34 @@ pub fn write_head(d: &mut [u8], at: usize, b: u8, n: u64) -> usize
     write_end(d, at + 1 + size)
 }
 
-// What delete, trim and acknowledge answer: 3, above 6,400; 8, the output is shorter.
-pub fn integer_reply(n: u64, out: &mut [u8]) -> Replied
+// What delete, trim and acknowledge answer, and how many bytes it takes: 3, above 6,400; 8, the output is shorter.
+pub fn integer_reply(n: u64, out: &mut [u8]) -> Result<usize, Refusal>
     ensures { (result ≡ replied_by (is_count n) (integer_bytes n) (length out.old)) × (out.new ≡ output_by (is_count n) (integer_bytes n) out.old) }
 {
     if 6400 < n {
-        return Replied::Refused(3);
+        return Err(Refusal::BadArgument);
     }
     if out.len() < head_size(n) {
-        return Replied::Refused(8);
+        return Err(Refusal::ShortOutput);
     }
     let end = write_head(out, 0, INTEGER, n);
-    Replied::Written(end)
+    Ok(end)
 }
 
-// A refusal by its number: 3, not from 1 to 18; 8, the output is shorter.
-pub fn error_reply(n: u64, out: &mut [u8]) -> Replied
+// A refusal by its number, and how many bytes it takes: 3, not from 1 to 18; 8, the output is shorter.
+pub fn error_reply(n: u64, out: &mut [u8]) -> Result<usize, Refusal>
     ensures { (result ≡ replied_by (is_refusal_number n) (error_bytes n) (length out.old)) × (out.new ≡ output_by (is_refusal_number n) (error_bytes n) out.old) }
 {
     if n < 1 {
-        return Replied::Refused(3);
+        return Err(Refusal::BadArgument);
     }
     if 18 < n {
-        return Replied::Refused(3);
+        return Err(Refusal::BadArgument);
     }
     if out.len() < 4 + head_size(n) {
-        return Replied::Refused(8);
+        return Err(Refusal::ShortOutput);
     }
     octets::copy_in(out, 0, b"-ERR");
     let end = write_head(out, 4, b' ', n);
-    Replied::Written(end)
+    Ok(end)
 }

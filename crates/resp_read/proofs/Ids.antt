@@ -2,7 +2,7 @@
 use mathlib.Core.Path.{◌≡◌, refl, sym, ap, ap₂, ◌∙◌}
 use mathlib.Core.Bool.{true}
 use mathlib.Core.List.{List, ◌∷◌, ◌++◌, append_assoc}
-use mathlib.Core.Option.{Option, some, none}
+use Rattle.std.proofs.Common.{Option, Some, None}
 use Prim.Native.Nat.{ℕ, ◌+◌, ◌-◌, ◌^◌, ◌≤◌, ◌<◌}
 use native.Mathlib.Omega.{arith}
 use lib.Dec.{eqb}
@@ -12,15 +12,15 @@ use Rattle.octets.specs.Maybe.{◌>>=◌, ◌>>◌, need}
 use Rattle.octets.proofs.Laws.{cut, needed, answered, some_is}
 use Rattle.decimal.specs.Text.{natural_text}
 use Rattle.id.specs.declared.Id.{Id}
-use Rattle.id.specs.Id.{id_of, least, is_id}
+use Rattle.id.specs.Id.{id_of, is_id}
 use Rattle.id.proofs.Laws.{id_fits}
 use Rattle.resp.specs.Reply.{crlf, head, bulk, id_text}
 use Rattle.resp.specs.Parse.{Got, gives, cut_byte, cut_end, cut_number, cut_head, cut_bulk, id_in}
 use Rattle.resp.proofs.Laws.{id_short, number_is, byte_is, end_is, head_is, bulk_is, id_is, number_here, byte_here, end_here, head_here, bulk_here, id_here}
-use Rattle.resp_read.specs.Answer.{end_by, cut_id, id_found, id_by, id_at, line_end, number_at, head_at}
+use Rattle.resp_read.specs.Answer.{cut_id, id_found, id_by, id_at, line_end, number_at, head_at}
 use Rattle.resp_read.specs.declared.part.Found.{Found}
 use Rattle.resp_read.specs.declared.entry.IdFound.{IdFound}
-use Rattle.resp_read.proofs.Places.{Left, left, there, missing}
+use Rattle.resp_read.proofs.Places.{Left, left, missing}
 use Rattle.resp_read.proofs.Parts.{place_of_lem, no_number, number_at_lem, end_missing, end_there, no_head, head_at_lem}
 
 -- where it lies: it must be as long as its head says
@@ -32,12 +32,12 @@ cut_here s = do
   seq ← cut_number r
   need (eqb (length n.rest - length seq.rest) n.got)
   t ← cut_end seq.rest
-  some (gives (id_of ms.got seq.got) t)
+  Some (gives (id_of ms.got seq.got) t)
 
 abbrev Reads : List ℕ → Got Id → Type 0
 Reads s c = (is_id c.got ≡ true) × (s ≡ bulk (id_text c.got) ++ c.rest)
 
-here_is : (s : List ℕ) (c : Got Id) → cut_here s ≡ some c → Reads s c
+here_is : (s : List ℕ) (c : Got Id) → cut_here s ≡ Some c → Reads s c
 unfolding cut_here bulk id_text
 here_is s c e =
     answered (cut_head 36 s) _ e λ n p e. answered (cut_number n.rest) _ e λ ms q e. answered (cut_byte 45 ms.rest) _ e λ r u e. answered (cut_number r) _ e λ seq v e.
@@ -57,11 +57,11 @@ here_is s c e =
 
 module _ (i : Id) where
   module _ (r : List ℕ) (e : is_id i ≡ true) where
-    ms_here : cut_number (id_text i ++ (crlf ++ r)) ≡ some (gives i.ms (45 ∷ (natural_text i.seq ++ (crlf ++ r))))
+    ms_here : cut_number (id_text i ++ (crlf ++ r)) ≡ Some (gives i.ms (45 ∷ (natural_text i.seq ++ (crlf ++ r))))
     unfolding id_text
     ms_here = rw append_assoc (number_here i.ms (45 ∷ (natural_text i.seq ++ (crlf ++ r))) (id_fits i e).ms_fits refl)
 
-    here_back : cut_here (bulk (id_text i) ++ r) ≡ some (gives i r)
+    here_back : cut_here (bulk (id_text i) ++ r) ≡ Some (gives i r)
     unfolding cut_here bulk
     here_back =
         rw (
@@ -75,11 +75,11 @@ module _ (i : Id) where
           end_here,
         )
 
-    id_back : cut_id (bulk (id_text i) ++ r) ≡ some (gives i r)
+    id_back : cut_id (bulk (id_text i) ++ r) ≡ Some (gives i r)
     unfolding cut_id
     id_back = rw (bulk_here (id_text i) r (id_short i), id_here i e)
 
-id_reads : (s : List ℕ) (c : Got Id) → cut_id s ≡ some c → Reads s c
+id_reads : (s : List ℕ) (c : Got Id) → cut_id s ≡ Some c → Reads s c
 unfolding cut_id
 id_reads s c e =
     answered (cut_bulk s) _ e λ x p e. answered (id_in x.got) _ e λ i q e.
@@ -87,10 +87,10 @@ id_reads s c e =
     rw (← some_is e) (y.0, (bulk_is s x p).1 ∙ ap (λ (z : List ℕ). bulk z ++ x.rest) y.1)
 
 -- both read the same
-same : (o p : Option (Got Id)) → ((c : Got Id) → o ≡ some c → p ≡ some c) → ((c : Got Id) → p ≡ some c → o ≡ some c) → o ≡ p
-same none none f g = refl
-same none (some c) f g = g c refl
-same (some c) p f g = sym (f c refl)
+same : (o p : Option (Got Id)) → ((c : Got Id) → o ≡ Some c → p ≡ Some c) → ((c : Got Id) → p ≡ Some c → o ≡ Some c) → o ≡ p
+same None None f g = refl
+same None (Some c) f g = g c refl
+same (Some c) p f g = sym (f c refl)
 
 id_here_is : (s : List ℕ) → cut_id s ≡ cut_here s
 id_here_is s =
@@ -108,81 +108,73 @@ module _ (s : List ℕ) (at : ℕ) where
   unfolding id_at
   here = ap (id_by s) (id_here_is (drop at s))
 
-  module _ (n : Found) (a : n ≡ head_at s at 36) where
-    pub id_none : n.next ≡ 0 → id_at s at ≡ id_found least 0
+  pub id_none : None ≡ head_at s at 36 → id_at s at ≡ None
+  unfolding cut_here
+  id_none a = rw (here, no_head s at 36 a)
+
+  module _ (n : Found) (a : Some n ≡ head_at s at 36) where
+    pub id_no_ms : None ≡ number_at s n.next → id_at s at ≡ None
     unfolding cut_here
-    id_none z = rw (here, no_head s at 36 n a z)
+    id_no_ms e = rw (here, (head_at_lem s at 36 n a).is, no_number s n.next e)
 
-    module _ (b : n.next ≡ 0 → ⊥) (f : Found) (e : f ≡ number_at s n.next) where
-      pub id_no_ms : f.next ≡ 0 → id_at s at ≡ id_found least 0
-      unfolding cut_here
-      id_no_ms z = rw (here, (head_at_lem s at 36 n a b).is, no_number s n.next f e z)
+    module _ (f : Found) (e : Some f ≡ number_at s n.next) where
+      pub id_ends : length s ≤ f.next → id_at s at ≡ None
+      unfolding cut_here cut_byte
+      id_ends k = rw (here, (head_at_lem s at 36 n a).is, (number_at_lem s n.next f e).is, drop_of_length-le s k)
 
-      module _ (h : f.next ≡ 0 → ⊥) where
-        pub id_ends : length s ≤ f.next → id_at s at ≡ id_found least 0
+      module _ (k : f.next < length s) where
+        pub id_no_hyphen : (get_or s f.next 0 ≡ 45 → ⊥) → id_at s at ≡ None
         unfolding cut_here cut_byte
-        id_ends k = rw (here, (head_at_lem s at 36 n a b).is, (number_at_lem s n.next f e h).is, drop_of_length-le s k)
+        id_no_hyphen j = rw (here, (head_at_lem s at 36 n a).is, (number_at_lem s n.next f e).is, cut s f.next k) (simp (ne_eqb (get_or s f.next 0) 45 j))
 
-        module _ (k : f.next < length s) where
-          pub id_no_hyphen : (get_or s f.next 0 ≡ 45 → ⊥) → id_at s at ≡ id_found least 0
-          unfolding cut_here cut_byte
-          id_no_hyphen j = rw (here, (head_at_lem s at 36 n a b).is, (number_at_lem s n.next f e h).is, cut s f.next k) (simp (ne_eqb (get_or s f.next 0) 45 j))
+        module _ (j : get_or s f.next 0 ≡ 45) where
+          hyphen : cut_byte 45 (drop f.next s) ≡ Some (drop (f.next + 1) s)
+          unfolding cut_byte
+          hyphen = rw (cut s f.next k) (simp (eq-eqb (get_or s f.next 0) 45 j))
 
-          module _ (j : get_or s f.next 0 ≡ 45) (g : Found) (p : g ≡ number_at s (f.next + 1)) where
-            hyphen : cut_byte 45 (drop f.next s) ≡ some (drop (f.next + 1) s)
-            unfolding cut_byte
-            hyphen = rw (cut s f.next k) (simp (eq-eqb (get_or s f.next 0) 45 j))
+          pub id_no_seq : None ≡ number_at s (f.next + 1) → id_at s at ≡ None
+          unfolding cut_here
+          id_no_seq p = rw (here, (head_at_lem s at 36 n a).is, (number_at_lem s n.next f e).is, hyphen, no_number s (f.next + 1) p)
 
-            pub id_no_seq : g.next ≡ 0 → id_at s at ≡ id_found least 0
+          module _ (g : Found) (p : Some g ≡ number_at s (f.next + 1)) where
+            size : length (drop n.next s) - length (drop g.next s) ≡ g.next - n.next
+            size = between s n.next g.next (head_at_lem s at 36 n a).within (number_at_lem s (f.next + 1) g p).within
+
+            pub id_other_length : (g.next - n.next ≡ n.value → ⊥) → id_at s at ≡ None
             unfolding cut_here
-            id_no_seq z = rw (here, (head_at_lem s at 36 n a b).is, (number_at_lem s n.next f e h).is, hyphen, no_number s (f.next + 1) g p z)
+            id_other_length m =
+                rw (here, (head_at_lem s at 36 n a).is, (number_at_lem s n.next f e).is, hyphen, (number_at_lem s (f.next + 1) g p).is, size, ne_eqb (g.next - n.next) n.value m)
 
-            module _ (l : g.next ≡ 0 → ⊥) where
-              size : length (drop n.next s) - length (drop g.next s) ≡ g.next - n.next
-              size = between s n.next g.next (head_at_lem s at 36 n a b).within (number_at_lem s (f.next + 1) g p l).within
-
-              pub id_other_length : (g.next - n.next ≡ n.value → ⊥) → id_at s at ≡ id_found least 0
+            module _ (m : g.next - n.next ≡ n.value) where
+              pub id_no_end : None ≡ line_end s g.next → id_at s at ≡ None
               unfolding cut_here
-              id_other_length m =
-                  rw (here, (head_at_lem s at 36 n a b).is, (number_at_lem s n.next f e h).is, hyphen, (number_at_lem s (f.next + 1) g p l).is, size, ne_eqb (g.next - n.next) n.value m)
+              id_no_end q =
+                  rw (here, (head_at_lem s at 36 n a).is, (number_at_lem s n.next f e).is, hyphen, (number_at_lem s (f.next + 1) g p).is, size, eq-eqb (g.next - n.next) n.value m, end_missing s g.next q)
 
-              module _ (m : g.next - n.next ≡ n.value) (t : ℕ) (q : t ≡ line_end s g.next) where
-                pub id_no_end : t ≡ 0 → id_at s at ≡ id_found least 0
-                unfolding cut_here
-                id_no_end z =
-                    rw (here, (head_at_lem s at 36 n a b).is, (number_at_lem s n.next f e h).is, hyphen, (number_at_lem s (f.next + 1) g p l).is, size, eq-eqb (g.next - n.next) n.value m, end_missing s g.next t q z)
-
-                pub id_there : (t ≡ 0 → ⊥) → (i : Id) → i ≡ id_of f.value g.value → id_at s at ≡ id_found i t
-                unfolding cut_here
-                id_there z i o =
-                    let y = end_there s g.next t q z in
-                    rw (here, (head_at_lem s at 36 n a b).is, (number_at_lem s n.next f e h).is, hyphen, (number_at_lem s (f.next + 1) g p l).is, size, eq-eqb (g.next - n.next) n.value m, y.0)
-                    (ap₂ id_found (sym o) (place_of_lem s t y.2))
+              pub id_there : (t : ℕ) → Some t ≡ line_end s g.next → (i : Id) → i ≡ id_of f.value g.value → id_at s at ≡ Some (id_found i t)
+              unfolding cut_here
+              id_there t q i o =
+                  let y = end_there s g.next t q in
+                  rw (here, (head_at_lem s at 36 n a).is, (number_at_lem s n.next f e).is, hyphen, (number_at_lem s (f.next + 1) g p).is, size, eq-eqb (g.next - n.next) n.value m, y.0)
+                  (ap₂ (λ (x : Id) (k : ℕ). Some (id_found x k)) (sym o) (place_of_lem s t y.2))
 
 -- what id_at says
 pub record IsId (s : List ℕ) (at : ℕ) (i : IdFound) : Type 0 where
-  pub is : cut_id (drop at s) ≡ some (gives i.id (drop i.next s))
+  pub is : cut_id (drop at s) ≡ Some (gives i.id (drop i.next s))
   pub within : i.next ≤ length s
 
-id_next : (s : List ℕ) (o : Option (Got Id)) → (id_by s o).next ≡ end_by s o
-id_next s none = refl
-id_next s (some c) = refl
-
-module _ (s : List ℕ) (at : ℕ) (i : IdFound) (e : i ≡ id_at s at) where
-  id_ends_at : i.next ≡ end_by s (cut_id (drop at s))
-  unfolding id_at
-  id_ends_at = ap (λ (x : IdFound). x.next) e ∙ id_next s (cut_id (drop at s))
-
-  id_left : (c : Got Id) → cut_id (drop at s) ≡ some c → Left s at c.rest
+module _ (s : List ℕ) (at : ℕ) where
+  id_left : (c : Got Id) → cut_id (drop at s) ≡ Some c → Left s at c.rest
   unfolding bulk head
   id_left c p = left s at (bulk (id_text c.got)) c.rest (id_reads (drop at s) c p).1 (omega arith)
 
-  pub no_id : i.next ≡ 0 → cut_id (drop at s) ≡ none
-  no_id z = missing s at _ id_left i.next id_ends_at z
-
-  pub id_at_lem : (i.next ≡ 0 → ⊥) → IsId s at i
+  pub no_id : None ≡ id_at s at → cut_id (drop at s) ≡ None
   unfolding id_at
-  id_at_lem h =
-      let t = there s at _ id_left i.next id_ends_at h in
-      let v = ap (λ (x : IdFound). x.id) (e ∙ ap (id_by s) t.is) in
-      record { is = t.is ∙ ap (λ (x : Id). some (gives x (drop i.next s))) (sym v); within = t.within }
+  no_id = missing (cut_id (drop at s)) _
+
+  pub id_at_lem : (i : IdFound) → Some i ≡ id_at s at → IsId s at i
+  unfolding id_at
+  id_at_lem i e =
+      answered (cut_id (drop at s)) _ (sym e) λ c p q.
+      let l = id_left c p in
+      rw (← some_is q) (record { is = p ∙ ap (λ (r : List ℕ). Some (gives c.got r)) l.is; within = omega arith })

@@ -1,25 +1,26 @@
 -- Numbers, heads and bulk strings at a place: what the functions meet there. Assumes nothing.
 use mathlib.Core.Path.{◌≡◌, refl, sym, ap, ap₂, ◌∙◌}
-use mathlib.Core.Bool.{false}
+use mathlib.Core.Bool.{Bool, true, false}
 use mathlib.Core.List.{List, [], ◌∷◌, ◌++◌, append_assoc}
-use mathlib.Core.Option.{Option, some, none}
-use Prim.Native.Nat.{ℕ, zero, suc, ◌+◌, ◌-◌, ◌*◌, ◌^◌, ◌≤◌, ◌<◌}
+use Rattle.std.proofs.Common.{Option, Some, None}
+use Prim.Native.Nat.{ℕ, ◌+◌, ◌-◌, ◌*◌, ◌^◌, ◌≤◌, ◌<◌}
 use native.Mathlib.Omega.{arith}
-use lib.Dec.{ltb}
+use lib.Dec.{leb, ltb}
 use lib.ListN.{length, take, drop, get_or, length-append, length-drop, drop_of_length-le, take-append-drop}
 use lib.Seq.{drop-drop, length-take-le}
-use borrow.Author.Tests.{eq-eqb, ne_eqb, le-leb, lt-leb, lt-ltb, le-ltb}
+use borrow.Author.Tests.{eq-eqb, ne_eqb, le-leb, lt-leb, lt-ltb, le-ltb, leb-true}
 use Rattle.octets.specs.Place.{area}
-use Rattle.octets.proofs.Laws.{cut, area_middle, pick_by, pick_le, needed, some_is}
+use Rattle.octets.specs.Maybe.{◌>>=◌, ◌>>◌, need}
+use Rattle.octets.proofs.Laws.{cut, area_middle, pick_by, needed, answered, some_is}
 use Rattle.decimal.specs.Text.{natural_text}
 use Rattle.decimal.specs.Integer.{is_digit}
 use Rattle.decimal.proofs.Laws.{length_natural}
 use Rattle.resp.specs.Reply.{crlf, head, bulk}
 use Rattle.resp.specs.Parse.{Got, gives, cut_byte, cut_end, cut_digits, cut_number, cut_head, cut_bulk}
 use Rattle.resp.proofs.Laws.{number_is, end_is, head_is, bulk_is}
-use Rattle.resp_read.specs.Answer.{place_by, found, number_by, short_by, bulk_by, line_end, digits_at, number_at, head_at, bulk_at}
+use Rattle.resp_read.specs.Answer.{found, number_by, short_by, line_end, digits_at, number_at, head_at, bulk_at}
 use Rattle.resp_read.specs.declared.part.Found.{Found}
-use Rattle.resp_read.proofs.Places.{Left, lengths, left, NumberAt, number_there, number_missing}
+use Rattle.resp_read.proofs.Places.{Left, lengths, left, missing, NumberAt, number_there}
 
 -- the place of what is left
 pub place_of_lem : (s : List ℕ) (at : ℕ) → at ≤ length s → length s - length (drop at s) ≡ at
@@ -27,28 +28,28 @@ place_of_lem s at h = omega (arith, length-drop at s)
 
 -- the digits after those of n, from i on; b stands there
 module _ (s : List ℕ) (n i : ℕ) where
-  pub digits_end : length s ≤ i → digits_at s n i ≡ found n (length s)
+  pub digits_end : length s ≤ i → digits_at s n i ≡ Some (found n (length s))
   unfolding digits_at cut_digits
-  digits_end h = rw (drop_of_length-le s h) (ap (found n) (omega arith))
+  digits_end h = rw (drop_of_length-le s h) (ap (λ (j : ℕ). Some (found n j)) (omega arith))
 
   module _ (b : ℕ) (e : b ≡ get_or s i 0) (h : i < length s) where
     here : drop i s ≡ b ∷ drop (i + 1) s
     here = cut s i h ∙ ap (λ (x : ℕ). x ∷ drop (i + 1) s) (sym e)
 
-    stop : is_digit b ≡ false → digits_at s n i ≡ found n i
+    stop : is_digit b ≡ false → digits_at s n i ≡ Some (found n i)
     unfolding digits_at cut_digits
     stop k =
         let l : length s - length (b ∷ drop (i + 1) s) ≡ i = omega (arith, length-drop (i + 1) s) in
-        rw (here, k) (ap (found n) l)
+        rw (here, k) (ap (λ (j : ℕ). Some (found n j)) l)
 
-    pub digits_low : b < 48 → digits_at s n i ≡ found n i
+    pub digits_low : b < 48 → digits_at s n i ≡ Some (found n i)
     digits_low k = stop (simp (lt-leb 48 b k))
 
-    pub digits_high : 57 < b → digits_at s n i ≡ found n i
+    pub digits_high : 57 < b → digits_at s n i ≡ Some (found n i)
     digits_high k = stop (simp (le-leb 48 b (omega arith), lt-leb b 57 k))
 
     module _ (lo : 48 ≤ b) (hi : b ≤ 57) where
-      pub digits_over : 2 ^ 64 ≤ 10 * n + (b - 48) → digits_at s n i ≡ found 0 0
+      pub digits_over : 2 ^ 64 ≤ 10 * n + (b - 48) → digits_at s n i ≡ None
       unfolding digits_at cut_digits
       digits_over k = rw here (simp (le-leb 48 b lo, le-leb b 57 hi, le-ltb (10 * n + (b - 48)) (2 ^ 64) k))
 
@@ -58,7 +59,7 @@ module _ (s : List ℕ) (n i : ℕ) where
 
 -- a number
 module _ (s : List ℕ) (at : ℕ) where
-  pub number_none : length s ≤ at → number_at s at ≡ found 0 0
+  pub number_none : length s ≤ at → number_at s at ≡ None
   unfolding number_at cut_number
   number_none h = rw (drop_of_length-le s h)
 
@@ -66,15 +67,15 @@ module _ (s : List ℕ) (at : ℕ) where
     first : drop at s ≡ b ∷ drop (at + 1) s
     first = cut s at h ∙ ap (λ (x : ℕ). x ∷ drop (at + 1) s) (sym e)
 
-    pub number_zero : b ≡ 48 → number_at s at ≡ found 0 (at + 1)
+    pub number_zero : b ≡ 48 → number_at s at ≡ Some (found 0 (at + 1))
     unfolding number_at cut_number
-    number_zero k = rw first (simp (eq-eqb b 48 k) (ap (found 0) (place_of_lem s (at + 1) (omega arith))))
+    number_zero k = rw first (simp (eq-eqb b 48 k) (ap (λ (j : ℕ). Some (found 0 j)) (place_of_lem s (at + 1) (omega arith))))
 
-    pub number_low : b < 48 → number_at s at ≡ found 0 0
+    pub number_low : b < 48 → number_at s at ≡ None
     unfolding number_at cut_number
     number_low k = rw first (simp (ne_eqb b 48 (λ z. omega arith), lt-leb 49 b (omega arith)))
 
-    pub number_high : 57 < b → number_at s at ≡ found 0 0
+    pub number_high : 57 < b → number_at s at ≡ None
     unfolding number_at cut_number
     number_high k = rw first (simp (ne_eqb b 48 (λ z. omega arith), le-leb 49 b (omega arith), lt-leb b 57 k))
 
@@ -82,208 +83,181 @@ module _ (s : List ℕ) (at : ℕ) where
     unfolding digits_at number_at cut_number
     number_more j k l = rw first (simp (ne_eqb b 48 l, le-leb 49 b (omega arith), le-leb b 57 k))
 
-  pub number_left : (c : Got ℕ) → cut_number (drop at s) ≡ some c → Left s at c.rest
+  pub number_left : (c : Got ℕ) → cut_number (drop at s) ≡ Some c → Left s at c.rest
   number_left c e = left s at (natural_text c.got) c.rest (number_is (drop at s) c e).1 (length_natural c.got).0
 
   -- what number says
-  module _ (f : Found) (e : f ≡ number_at s at) where
-    pub no_number : f.next ≡ 0 → cut_number (drop at s) ≡ none
-    unfolding number_at
-    no_number = number_missing s at _ number_left f e
+  pub no_number : None ≡ number_at s at → cut_number (drop at s) ≡ None
+  unfolding number_at
+  no_number = missing (cut_number (drop at s)) _
 
-    pub number_at_lem : (f.next ≡ 0 → ⊥) → NumberAt s at (cut_number (drop at s)) f
-    unfolding number_at
-    number_at_lem = number_there s at _ number_left f e
+  pub number_at_lem : (f : Found) → Some f ≡ number_at s at → NumberAt s at (cut_number (drop at s)) f
+  unfolding number_at
+  number_at_lem = number_there s at _ number_left
 
 -- CR LF
 module _ (s : List ℕ) (at : ℕ) where
-  pub end_short : length s < at + 2 → line_end s at ≡ 0
+  pub end_short : length s < at + 2 → line_end s at ≡ None
   unfolding line_end
   end_short h = go (cut_end (drop at s)) refl
     where
-      go : (o : Option (List ℕ)) → cut_end (drop at s) ≡ o → place_by s o ≡ 0
-      go none e = refl
-      go (some r) e = absurd (omega (arith, length-drop at s, ap length (end_is (drop at s) r e)))
+      go : (o : Option (List ℕ)) → cut_end (drop at s) ≡ o → (o >>= (λ (r : List ℕ). Some (length s - length r))) ≡ None
+      go None e = refl
+      go (Some r) e = absurd (omega (arith, length-drop at s, ap length (end_is (drop at s) r e)))
 
   module _ (h : at + 2 ≤ length s) where
     both_bytes : drop at s ≡ get_or s at 0 ∷ (get_or s (at + 1) 0 ∷ drop (at + 1 + 1) s)
     both_bytes = cut s at (omega arith) ∙ ap (λ (l : List ℕ). get_or s at 0 ∷ l) (cut s (at + 1) (omega arith))
 
-    pub end_first : (get_or s at 0 ≡ 13 → ⊥) → line_end s at ≡ 0
+    pub end_first : (get_or s at 0 ≡ 13 → ⊥) → line_end s at ≡ None
     unfolding line_end cut_end cut_byte
     end_first k = rw both_bytes (simp (ne_eqb (get_or s at 0) 13 k))
 
-    pub end_second : get_or s at 0 ≡ 13 → (get_or s (at + 1) 0 ≡ 10 → ⊥) → line_end s at ≡ 0
+    pub end_second : get_or s at 0 ≡ 13 → (get_or s (at + 1) 0 ≡ 10 → ⊥) → line_end s at ≡ None
     unfolding line_end cut_end cut_byte
     end_second j k = rw both_bytes (simp (eq-eqb (get_or s at 0) 13 j, ne_eqb (get_or s (at + 1) 0) 10 k))
 
-    pub end_here : get_or s at 0 ≡ 13 → get_or s (at + 1) 0 ≡ 10 → line_end s at ≡ at + 2
+    pub end_here : get_or s at 0 ≡ 13 → get_or s (at + 1) 0 ≡ 10 → line_end s at ≡ Some (at + 2)
     unfolding line_end cut_end cut_byte
-    end_here j k = rw both_bytes (simp (eq-eqb (get_or s at 0) 13 j, eq-eqb (get_or s (at + 1) 0) 10 k) (omega (arith, length-drop (at + 1 + 1) s)))
+    end_here j k = rw both_bytes (simp (eq-eqb (get_or s at 0) 13 j, eq-eqb (get_or s (at + 1) 0) 10 k) (ap Some (omega (arith, length-drop (at + 1 + 1) s))))
 
   -- what line_end says
-  module _ (n : ℕ) (e : n ≡ line_end s at) where
-    pub end_missing : n ≡ 0 → cut_end (drop at s) ≡ none
-    unfolding line_end
-    end_missing z = go (cut_end (drop at s)) refl e
-      where
-        go : (o : Option (List ℕ)) → cut_end (drop at s) ≡ o → n ≡ place_by s o → o ≡ none
-        go none p q = refl
-        go (some r) p q = absurd (omega (arith, (left s at crlf r (end_is (drop at s) r p) (omega arith)).some_place))
+  pub end_missing : None ≡ line_end s at → cut_end (drop at s) ≡ None
+  unfolding line_end
+  end_missing = missing (cut_end (drop at s)) _
 
-    pub end_there : (n ≡ 0 → ⊥) → (cut_end (drop at s) ≡ some (drop n s)) × (n ≡ at + 2) × (n ≤ length s)
-    unfolding line_end
-    end_there h = go (cut_end (drop at s)) refl e
-      where
-        go : (o : Option (List ℕ)) → cut_end (drop at s) ≡ o → n ≡ place_by s o → (o ≡ some (drop n s)) × (n ≡ at + 2) × (n ≤ length s)
-        go none p q = absurd (h q)
-        go (some r) p q =
-            let t = end_is (drop at s) r p in
-            let l = left s at crlf r t (omega arith) in
-            (ap some (l.is ∙ ap (λ (i : ℕ). drop i s) (sym q)), omega (arith, ap length t, length-drop at s, l.past, l.some_place), omega arith)
+  pub end_there : (n : ℕ) → Some n ≡ line_end s at → (cut_end (drop at s) ≡ Some (drop n s)) × (n ≡ at + 2) × (n ≤ length s)
+  unfolding line_end
+  end_there n e =
+      answered (cut_end (drop at s)) _ (sym e) λ r p q.
+      let t = end_is (drop at s) r p in
+      let l = left s at crlf r t (omega arith) in
+      let k : length s - length r ≡ n = some_is q in
+      (p ∙ ap Some (l.is ∙ ap (λ (i : ℕ). drop i s) k), omega (arith, ap length t, length-drop at s, l.past), omega arith)
 
--- a head: the byte b, a number, CR LF
+-- a head: the byte b, a number, CR LF; what follows the number
+abbrev pub ended : List ℕ → Found → Option Found
+ended s f = do
+  n ← line_end s f.next
+  Some (found f.value n)
+
 module _ (s : List ℕ) (at b : ℕ) where
-  pub head_none : length s ≤ at → head_at s at b ≡ found 0 0
+  pub head_none : length s ≤ at → head_at s at b ≡ None
   unfolding head_at cut_head cut_byte
   head_none h = rw (drop_of_length-le s h)
 
-  pub head_left : (c : Got ℕ) → cut_head b (drop at s) ≡ some c → Left s at c.rest
+  pub head_left : (c : Got ℕ) → cut_head b (drop at s) ≡ Some c → Left s at c.rest
   unfolding head
   head_left c e = left s at (head b c.got) c.rest (head_is b (drop at s) c e).1 (omega arith)
 
   module _ (h : at < length s) where
-    pub head_other : (get_or s at 0 ≡ b → ⊥) → head_at s at b ≡ found 0 0
+    pub head_other : (get_or s at 0 ≡ b → ⊥) → head_at s at b ≡ None
     unfolding head_at cut_head cut_byte
     head_other k = rw (cut s at h) (simp (ne_eqb (get_or s at 0) b k))
 
-    begins : get_or s at 0 ≡ b → cut_byte b (drop at s) ≡ some (drop (at + 1) s)
+    begins : get_or s at 0 ≡ b → cut_byte b (drop at s) ≡ Some (drop (at + 1) s)
     unfolding cut_byte
     begins k = rw (cut s at h) (simp (eq-eqb (get_or s at 0) b k))
 
-    module _ (k : get_or s at 0 ≡ b) (f : Found) (p : f ≡ number_at s (at + 1)) where
-      pub head_no_number : f.next ≡ 0 → head_at s at b ≡ found 0 0
-      unfolding head_at cut_head
-      head_no_number z = rw (begins k, no_number s (at + 1) f p z)
+    pub head_step : get_or s at 0 ≡ b → head_at s at b ≡ (number_at s (at + 1) >>= ended s)
+    unfolding head_at cut_head number_at line_end
+    head_step k = rw (begins k) (go (cut_number (drop (at + 1) s)) refl)
+      where
+        one : (v : ℕ) (o : Option (List ℕ)) → number_by s (o >>= (λ (t : List ℕ). Some (gives v t))) ≡ ((o >>= (λ (r : List ℕ). Some (length s - length r))) >>= (λ (n : ℕ). Some (found v n)))
+        one v None = refl
+        one v (Some t) = refl
 
-      module _ (l : f.next ≡ 0 → ⊥) (n : ℕ) (q : n ≡ line_end s f.next) where
-        pub head_no_end : n ≡ 0 → head_at s at b ≡ found 0 0
-        unfolding head_at cut_head
-        head_no_end z = rw (begins k, (number_at_lem s (at + 1) f p l).is, end_missing s f.next n q z)
-
-        pub head_there : (n ≡ 0 → ⊥) → head_at s at b ≡ found f.value n
-        unfolding head_at cut_head
-        head_there z =
-            let t = end_there s f.next n q z in
-            rw (begins k, (number_at_lem s (at + 1) f p l).is, t.0) (ap (found f.value) (place_of_lem s n t.2))
+        go : (o : Option (Got ℕ)) → cut_number (drop (at + 1) s) ≡ o
+            → number_by s (o >>= (λ (n : Got ℕ). cut_end n.rest >>= (λ (t : List ℕ). Some (gives n.got t)))) ≡ (number_by s o >>= ended s)
+        go None e = refl
+        go (Some c) e = rw (← (number_left s (at + 1) c e).is) (one c.got (cut_end c.rest))
 
 -- what a head says
-module _ (s : List ℕ) (at b : ℕ) (f : Found) (e : f ≡ head_at s at b) where
-  pub no_head : f.next ≡ 0 → cut_head b (drop at s) ≡ none
+module _ (s : List ℕ) (at b : ℕ) where
+  pub no_head : None ≡ head_at s at b → cut_head b (drop at s) ≡ None
   unfolding head_at
-  no_head = number_missing s at _ (head_left s at b) f e
+  no_head = missing (cut_head b (drop at s)) _
 
-  pub head_at_lem : (f.next ≡ 0 → ⊥) → NumberAt s at (cut_head b (drop at s)) f
+  pub head_at_lem : (f : Found) → Some f ≡ head_at s at b → NumberAt s at (cut_head b (drop at s)) f
   unfolding head_at
-  head_at_lem = number_there s at _ (head_left s at b) f e
+  head_at_lem = number_there s at _ (head_left s at b)
 
 -- a length: at most 1,000
-pub short_one : (f : Found) → f.value ≤ 1000 → short_by f ≡ f
+pub short_one : (f : Found) → f.value ≤ 1000 → short_by (Some f) ≡ Some f
 short_one f h = rw (le-leb f.value 1000 h)
 
-short_other : (f : Found) → 1000 < f.value → short_by f ≡ found 0 0
+short_other : (f : Found) → 1000 < f.value → short_by (Some f) ≡ None
 short_other f h = rw (lt-leb f.value 1000 h)
 
 -- what it says
-module _ (f g : Found) (e : f ≡ short_by g) where
-  pub is_short_lem : (f.next ≡ 0 → ⊥) → (f ≡ g) × (f.value ≤ 1000)
-  is_short_lem h =
-      pick_le (λ (x : Found). f ≡ x → (f ≡ g) × (f.value ≤ 1000)) g.value 1000 _ _
-      (λ k q. (q, omega (arith, ap (λ (x : Found). x.value) q)))
-      (λ k q. absurd (h (ap (λ (x : Found). x.next) q))) e
-
-  pub not_short : f.next ≡ 0 → (g.next ≡ 0 → ⊥) → 1000 < g.value
-  not_short z h =
-      pick_le (λ (x : Found). f ≡ x → 1000 < g.value) g.value 1000 _ _
-      (λ k q. absurd (h (sym (ap (λ (x : Found). x.next) q) ∙ z)))
-      (λ k q. k) e
+is_short_lem : (f : Found) (o : Option Found) → Some f ≡ short_by o → (Some f ≡ o) × (f.value ≤ 1000)
+is_short_lem f o e =
+    answered o _ (sym e) λ g p e. needed (leb g.value 1000) _ e λ l e.
+    let q : g ≡ f = some_is e in
+    (sym (p ∙ ap Some q), omega (arith, leb-true g.value 1000 l, ap (λ (x : Found). x.value) q))
 
 -- digits only make a number greater
-digits_grow : (n : ℕ) (s : List ℕ) (c : Got ℕ) → cut_digits n s ≡ some c → n ≤ c.got
+digits_grow : (n : ℕ) (s : List ℕ) (c : Got ℕ) → cut_digits n s ≡ Some c → n ≤ c.got
 unfolding cut_digits
 digits_grow n [] c e = omega (arith, ap (λ (x : Got ℕ). x.got) (some_is e))
 digits_grow n (b ∷ s) c e =
-    let P : Option (Got ℕ) → Type 0 = λ o. o ≡ some c → n ≤ c.got in
+    let P : Option (Got ℕ) → Type 0 = λ o. o ≡ Some c → n ≤ c.got in
     pick_by P (is_digit b) _ _
     (λ d e. needed (ltb (10 * n + (b - 48)) (2 ^ 64)) _ e λ l e. omega (arith, digits_grow (10 * n + (b - 48)) s c e))
     (λ d e. omega (arith, ap (λ (x : Got ℕ). x.got) (some_is e))) e
 
 module _ (s : List ℕ) (n i : ℕ) where
-  pub digits_long : 1000 < n → short_by (digits_at s n i) ≡ found 0 0
+  pub digits_long : 1000 < n → short_by (digits_at s n i) ≡ None
   unfolding digits_at
   digits_long h = go (cut_digits n (drop i s)) refl
     where
-      go : (o : Option (Got ℕ)) → cut_digits n (drop i s) ≡ o → short_by (number_by s o) ≡ found 0 0
-      go none e = refl
-      go (some c) e = short_other (number_by s (some c)) (omega (arith, digits_grow n (drop i s) c e))
+      go : (o : Option (Got ℕ)) → cut_digits n (drop i s) ≡ o → short_by (number_by s o) ≡ None
+      go None e = refl
+      go (Some c) e = short_other (found c.got (length s - length c.rest)) (omega (arith, digits_grow n (drop i s) c e))
 
--- the head with a length: f is the length
-module _ (s : List ℕ) (at : ℕ) (h : at < length s) (k : get_or s at 0 ≡ 36) (f : Found) (p : f ≡ short_by (number_at s (at + 1))) where
-  long_end : (n : ℕ) → line_end s (number_at s (at + 1)).next ≡ n → ((number_at s (at + 1)).next ≡ 0 → ⊥) → 1000 < (number_at s (at + 1)).value → short_by (head_at s at 36) ≡ found 0 0
-  long_end zero e l m = ap short_by (head_no_end s at 36 h k _ refl l 0 (sym e) refl)
-  long_end (suc n) e l m = ap short_by (head_there s at 36 h k _ refl l (suc n) (sym e) (λ z. omega arith)) ∙ short_other _ m
+-- the head with a length
+pub length_step : (s : List ℕ) (at : ℕ) → at < length s → get_or s at 0 ≡ 36 → short_by (head_at s at 36) ≡ (short_by (number_at s (at + 1)) >>= ended s)
+length_step s at h k = ap short_by (head_step s at 36 h k) ∙ go (number_at s (at + 1))
+  where
+    by : (f : Found) (t : Bool) → leb f.value 1000 ≡ t → (o : Option ℕ) → line_end s f.next ≡ o → short_by (ended s f) ≡ (short_by (Some f) >>= ended s)
+    by f true e None q = rw (e, q) refl
+    by f false e None q = rw (e, q) refl
+    by f true e (Some n) q = rw (e, q, e) refl
+    by f false e (Some n) q = rw (e, q, e) refl
 
-  length_go : (n : ℕ) → (number_at s (at + 1)).next ≡ n → f.next ≡ 0 → short_by (head_at s at 36) ≡ found 0 0
-  length_go zero e z = ap short_by (head_no_number s at 36 h k _ refl e)
-  length_go (suc n) e z = let l : (number_at s (at + 1)).next ≡ 0 → ⊥ = λ y. omega arith in long_end _ refl l (not_short f _ p z l)
-
-  pub length_none : f.next ≡ 0 → short_by (head_at s at 36) ≡ found 0 0
-  length_none = length_go _ refl
-
-  module _ (l : f.next ≡ 0 → ⊥) (n : ℕ) (q : n ≡ line_end s f.next) where
-    pub length_no_end : n ≡ 0 → short_by (head_at s at 36) ≡ found 0 0
-    length_no_end z = ap short_by (head_no_end s at 36 h k f (is_short_lem f _ p l).0 l n q z)
-
-    pub length_there : (n ≡ 0 → ⊥) → short_by (head_at s at 36) ≡ found f.value n
-    length_there z = let t = is_short_lem f _ p l in ap short_by (head_there s at 36 h k f t.0 l n q z) ∙ short_one (found f.value n) t.1
+    go : (o : Option Found) → short_by (o >>= ended s) ≡ (short_by o >>= ended s)
+    go None = refl
+    go (Some f) = by f (leb f.value 1000) refl (line_end s f.next) refl
 
 -- a bulk string, after its head
-module _ (s : List ℕ) (at : ℕ) (f : Found) (e : f ≡ short_by (head_at s at 36)) where
-  none_by : (o : Option (Got ℕ)) → cut_head 36 (drop at s) ≡ o → f ≡ short_by (number_by s o) → f.next ≡ 0 → bulk_at s at ≡ 0
-  unfolding bulk_at cut_bulk
-  none_by none p q z = rw p
-  none_by (some c) p q z =
-      let l = not_short f (number_by s (some c)) q z (λ y. omega (arith, (head_left s at 36 c p).some_place)) in
-      rw p (simp (lt-leb c.got 1000 l))
+module _ (s : List ℕ) (at : ℕ) where
+  pub length_at : (f : Found) → Some f ≡ short_by (head_at s at 36) → NumberAt s at (cut_head 36 (drop at s)) f × (f.value ≤ 1000)
+  length_at f e = let t = is_short_lem f _ e in (head_at_lem s at 36 f t.0, t.1)
 
-  pub bulk_none : f.next ≡ 0 → bulk_at s at ≡ 0
-  unfolding head_at
-  bulk_none = none_by (cut_head 36 (drop at s)) refl e
+  pub bulk_step : bulk_at s at ≡ (short_by (head_at s at 36) >>= (λ (f : Found). line_end s (f.next + f.value) >>= (λ (n : ℕ). Some f.value)))
+  unfolding bulk_at cut_bulk head_at line_end
+  bulk_step = go (cut_head 36 (drop at s)) refl
+    where
+      taken : (c : Got ℕ) (o : Option (List ℕ)) → cut_end (drop c.got c.rest) ≡ o
+          → ((o >>= (λ (t : List ℕ). Some (gives (take c.got c.rest) t))) >>= (λ (x : Got (List ℕ)). Some (length x.got))) ≡ ((o >>= (λ (r : List ℕ). Some (length s - length r))) >>= (λ (n : ℕ). Some c.got))
+      taken c None e = refl
+      taken c (Some t) e = ap Some (length-take-le c.got c.rest (omega (arith, length-drop c.got c.rest, ap length (end_is (drop c.got c.rest) t e))))
 
-  module _ (h : f.next ≡ 0 → ⊥) where
-    pub length_at : NumberAt s at (cut_head 36 (drop at s)) f × (f.value ≤ 1000)
-    length_at = let t = is_short_lem f _ e h in (head_at_lem s at 36 f t.0 h, t.1)
+      by : (c : Got ℕ) → drop (length s - length c.rest + c.got) s ≡ drop c.got c.rest → (t : Bool) → leb c.got 1000 ≡ t
+          → ((need (leb c.got 1000) >> (cut_end (drop c.got c.rest) >>= (λ (t : List ℕ). Some (gives (take c.got c.rest) t)))) >>= (λ (x : Got (List ℕ)). Some (length x.got)))
+          ≡ (short_by (number_by s (Some c)) >>= (λ (f : Found). line_end s (f.next + f.value) >>= (λ (n : ℕ). Some f.value)))
+      by c d true e = rw (e, d) (taken c (cut_end (drop c.got c.rest)) refl)
+      by c d false e = rw e refl
 
-    after : cut_end (drop f.value (drop f.next s)) ≡ cut_end (drop (f.next + f.value) s)
-    after = ap cut_end (drop-drop f.value f.next s)
-
-    pub bulk_no_end : (n : ℕ) → n ≡ line_end s (f.next + f.value) → n ≡ 0 → bulk_at s at ≡ 0
-    unfolding line_end bulk_at cut_bulk
-    bulk_no_end n q z = rw (length_at.0.is, le-leb f.value 1000 length_at.1, after, end_missing s (f.next + f.value) n q z)
-
-    pub bulk_short : length s - f.next < f.value → bulk_at s at ≡ 0
-    bulk_short l = bulk_no_end 0 (sym (end_short s (f.next + f.value) (omega arith))) refl
-
-    pub bulk_there : (n : ℕ) → n ≡ line_end s (f.next + f.value) → (n ≡ 0 → ⊥) → bulk_at s at ≡ f.value + 1
-    unfolding line_end bulk_at cut_bulk
-    bulk_there n q z =
-        let t = end_there s (f.next + f.value) n q z in
-        let l : length (take f.value (drop f.next s)) ≡ f.value = length-take-le f.value (drop f.next s) (omega (arith, length-drop f.next s, t.1, t.2)) in
-        rw (length_at.0.is, le-leb f.value 1000 length_at.1, after, t.0) (ap (λ (i : ℕ). i + 1) l)
+      go : (o : Option (Got ℕ)) → cut_head 36 (drop at s) ≡ o
+          → ((o >>= (λ (n : Got ℕ). need (leb n.got 1000) >> (cut_end (drop n.got n.rest) >>= (λ (t : List ℕ). Some (gives (take n.got n.rest) t))))) >>= (λ (x : Got (List ℕ)). Some (length x.got)))
+          ≡ (short_by (number_by s o) >>= (λ (f : Found). line_end s (f.next + f.value) >>= (λ (n : ℕ). Some f.value)))
+      go None e = refl
+      go (Some c) e = by c (sym (drop-drop c.got (length s - length c.rest) s) ∙ ap (drop c.got) (sym (head_left s at 36 c e).is)) (leb c.got 1000) refl
 
 -- a bulk string of so many bytes, and where they begin
 pub record IsBulk (s : List ℕ) (at len from : ℕ) : Type 0 where
-  pub is : cut_bulk (drop at s) ≡ some (gives (area from len s) (drop (from + len + 2) s))
+  pub is : cut_bulk (drop at s) ≡ Some (gives (area from len s) (drop (from + len + 2) s))
   pub short : len ≤ 1000
   pub within : from + len + 2 ≤ length s
 
@@ -304,24 +278,16 @@ module _ (s : List ℕ) (at : ℕ) where
         omega (arith, n),
       )
 
-  module _ (n : ℕ) where
-    -- h is the size of its head
-    bulk_go : (o : Option (Got (List ℕ))) → cut_bulk (drop at s) ≡ o → n ≡ bulk_by o → (n ≡ 0 → ⊥) → (h : ℕ) → h ≡ length (head 36 (n - 1)) → IsBulk s at (n - 1) (at + h)
-    bulk_go none p e k h q = absurd (k e)
-    bulk_go (some c) p e k h q =
-        let m : n - 1 ≡ length c.got = omega arith in
-        let t = bulk_is (drop at s) c p in
-        let y = bulk_lies c.got c.rest t.1 (at + h) (ap (λ (i : ℕ). at + i) (q ∙ ap (λ (i : ℕ). length (head 36 i)) m)) in
-        rw m (record { is = p ∙ ap₂ (λ (x r : List ℕ). some (gives x r)) (sym y.0) y.1; short = t.0; within = y.2 })
+  -- h is the size of its head
+  pub bulk_at_lem : (n : ℕ) → Some n ≡ bulk_at s at → (h : ℕ) → h ≡ length (head 36 n) → IsBulk s at n (at + h)
+  unfolding bulk_at
+  bulk_at_lem n e h q =
+      answered (cut_bulk (drop at s)) _ (sym e) λ c p e.
+      let m : length c.got ≡ n = some_is e in
+      let t = bulk_is (drop at s) c p in
+      let y = bulk_lies c.got c.rest t.1 (at + h) (ap (λ (i : ℕ). at + i) (q ∙ ap (λ (i : ℕ). length (head 36 i)) (sym m))) in
+      rw (← m) (record { is = p ∙ ap₂ (λ (x r : List ℕ). Some (gives x r)) (sym y.0) y.1; short = t.0; within = y.2 })
 
-    pub bulk_at_lem : n ≡ bulk_at s at → (n ≡ 0 → ⊥) → (h : ℕ) → h ≡ length (head 36 (n - 1)) → IsBulk s at (n - 1) (at + h)
-    unfolding bulk_at
-    bulk_at_lem = bulk_go (cut_bulk (drop at s)) refl
-
-    none_go : (o : Option (Got (List ℕ))) → n ≡ bulk_by o → n ≡ 0 → o ≡ none
-    none_go none e z = refl
-    none_go (some c) e z = absurd (omega arith)
-
-    pub no_bulk : n ≡ bulk_at s at → n ≡ 0 → cut_bulk (drop at s) ≡ none
-    unfolding bulk_at
-    no_bulk = none_go (cut_bulk (drop at s))
+  pub no_bulk : None ≡ bulk_at s at → cut_bulk (drop at s) ≡ None
+  unfolding bulk_at
+  no_bulk = missing (cut_bulk (drop at s)) _

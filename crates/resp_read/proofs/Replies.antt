@@ -2,16 +2,15 @@
 use mathlib.Core.Path.{◌≡◌, refl, sym, ap, ◌∙◌}
 use mathlib.Core.Bool.{true, false}
 use mathlib.Core.List.{List, [], ◌∷◌, ◌++◌}
-use mathlib.Core.Option.{Option, some, none}
+use Rattle.std.proofs.Common.{Option, Some, None}
 use Prim.Native.Nat.{ℕ, suc, ◌-◌, ◌≤◌, ◌<◌}
 use native.Mathlib.Omega.{arith}
 use lib.Dec.{leb, eqb}
-use lib.ListN.{length, take, drop, get_or, length-take, length-drop, take-append-drop}
+use lib.ListN.{length, take, drop, get_or, length-drop, take-append-drop}
 use borrow.Author.Tests.{eq-eqb, ne_eqb, le-leb, lt-leb}
 use Rattle.octets.specs.Pick.{both}
 use Rattle.octets.specs.Maybe.{◌>>=◌, ◌>>◌, need}
-use Rattle.octets.specs.Compare.{same}
-use Rattle.octets.proofs.Laws.{answered, same_true, same_false}
+use Rattle.octets.proofs.Laws.{answered}
 use Rattle.id.specs.declared.Id.{Id}
 use Rattle.id.specs.Id.{least, below}
 use Rattle.node.specs.Message.{Message}
@@ -20,161 +19,151 @@ use Rattle.resp.specs.Parse.{Got, gives, cut_byte, cut_head, cut_entries, parse_
 use Rattle.resp.proofs.Laws.{byte_is, entries_is}
 use Rattle.resp_read.specs.Answer.{end_by, head_at, entry_at, entries_end, read_by}
 use Rattle.resp_read.specs.declared.part.Found.{Found}
-use Rattle.resp_read.specs.declared.entry.EntryFound.{EntryFound}
-use Rattle.resp_read.specs.declared.reading.ReplyRead.TheVariants.{Range, Integer, Error, Bad}
-use Rattle.resp_read.proofs.Places.{Left, left_all_lem, There, there, missing}
+use Rattle.resp_read.specs.declared.entry.IdFound.{IdFound}
+use Rattle.resp_read.specs.declared.reading.ReplyRead.TheVariants.{Range, Integer, Error}
+use Rattle.resp_read.proofs.Places.{left_all_lem, There, there, missing}
 use Rattle.resp_read.proofs.Parts.{place_of_lem, no_head, head_at_lem}
 use Rattle.resp_read.proofs.Sizes.{no_entry, entry_at_lem}
 
 -- n entries above i from a place on: x is the first
-end_mapped : (s : List ℕ) (m : Message) (o : Option (Got (List Message))) → end_by s (o >>= (λ (c : Got (List Message)). some (gives (m ∷ c.got) c.rest))) ≡ end_by s o
-end_mapped s m none = refl
-end_mapped s m (some c) = refl
+end_mapped : (s : List ℕ) (m : Message) (o : Option (Got (List Message))) → end_by s (o >>= (λ (c : Got (List Message)). Some (gives (m ∷ c.got) c.rest))) ≡ end_by s o
+end_mapped s m None = refl
+end_mapped s m (Some c) = refl
 
 module _ (s : List ℕ) (n : ℕ) (i : Id) (at : ℕ) where
-  pub entries_end_lem : n ≡ 0 → at ≤ length s → entries_end s n i at ≡ at
+  pub entries_end_lem : n ≡ 0 → at ≤ length s → entries_end s n i at ≡ Some at
   unfolding entries_end cut_entries
-  entries_end_lem z h = rw z (place_of_lem s at h)
+  entries_end_lem z h = rw z (ap Some (place_of_lem s at h))
 
-  module _ (more : 0 < n) (x : EntryFound) (e : x ≡ entry_at s at) where
+  module _ (more : 0 < n) where
     one_more : cut_entries n i (drop at s) ≡ cut_entries (suc (n - 1)) i (drop at s)
     one_more = let q : n ≡ suc (n - 1) = omega arith in ap (λ (k : ℕ). cut_entries k i (drop at s)) q
 
-    pub entries_none : x.next ≡ 0 → entries_end s n i at ≡ 0
+    pub entries_none : None ≡ entry_at s at → entries_end s n i at ≡ None
     unfolding entries_end cut_entries
-    entries_none z = rw (one_more, no_entry s at x e z)
+    entries_none e = rw (one_more, no_entry s at e)
 
-    module _ (h : x.next ≡ 0 → ⊥) where
-      pub entries_fall : below i x.id ≡ false → entries_end s n i at ≡ 0
+    module _ (x : IdFound) (e : Some x ≡ entry_at s at) where
+      pub entries_fall : below i x.id ≡ false → entries_end s n i at ≡ None
       unfolding entries_end cut_entries
-      entries_fall w = let k = entry_at_lem s at x e h in rw (one_more, k.is, k.id_is, w)
+      entries_fall w = let k = entry_at_lem s at x e in rw (one_more, k.is, k.id_is, w)
 
-      pub entries_turn : below i x.id ≡ true → entries_end s n i at ≡ entries_end s (n - 1) x.id x.next
+      -- m is how many are left
+      pub entries_turn : (m : ℕ) → m ≡ n - 1 → below i x.id ≡ true → entries_end s n i at ≡ entries_end s m x.id x.next
       unfolding entries_end cut_entries
-      entries_turn w = let k = entry_at_lem s at x e h in rw (one_more, k.is, k.id_is, w) (end_mapped s k.got (cut_entries (n - 1) x.id (drop x.next s)))
+      entries_turn m q w = let k = entry_at_lem s at x e in rw (one_more, k.is, k.id_is, w, q) (end_mapped s k.got (cut_entries (n - 1) x.id (drop x.next s)))
 
 -- what entries says
-module _ (s : List ℕ) (n : ℕ) (i : Id) (at : ℕ) (h : 0 < at) (k : at ≤ length s) (e : ℕ) (p : e ≡ entries_end s n i at) where
-  entries_left : (c : Got (List Message)) → cut_entries n i (drop at s) ≡ some c → Left s at c.rest
-  entries_left c q = left_all_lem s at (entries c.got) c.rest (entries_is n i (drop at s) c q).text h k
-
-  pub no_entries : e ≡ 0 → cut_entries n i (drop at s) ≡ none
+module _ (s : List ℕ) (n : ℕ) (i : Id) (at : ℕ) where
+  pub no_entries : None ≡ entries_end s n i at → cut_entries n i (drop at s) ≡ None
   unfolding entries_end
-  no_entries z = missing s at _ entries_left e p z
+  no_entries = missing (cut_entries n i (drop at s)) _
 
-  pub entries_at : (e ≡ 0 → ⊥) → There s at (cut_entries n i (drop at s)) e
+  pub entries_at : at ≤ length s → (e : ℕ) → Some e ≡ entries_end s n i at → There s at (cut_entries n i (drop at s)) e
   unfolding entries_end
-  entries_at z = there s at _ entries_left e p z
+  entries_at k = there s at _ λ c q. left_all_lem s at (entries c.got) c.rest (entries_is n i (drop at s) c q).text k
 
 -- a range reply: f is how many, e the place after the entries
-module _ (s : List ℕ) (f : Found) (p : f ≡ head_at s 0 42) where
-  pub range_no_head : f.next ≡ 0 → read_by (parse_range s) ≡ Bad
+module _ (s : List ℕ) where
+  pub range_no_head : None ≡ head_at s 0 42 → read_by (parse_range s) ≡ None
   unfolding parse_range
-  range_no_head z = rw (no_head s 0 42 f p z)
+  range_no_head p = rw (no_head s 0 42 p)
 
-  module _ (h : f.next ≡ 0 → ⊥) (e : ℕ) (q : e ≡ entries_end s f.value least f.next) where
-    pub range_no_entries : e ≡ 0 → read_by (parse_range s) ≡ Bad
+  module _ (f : Found) (p : Some f ≡ head_at s 0 42) where
+    pub range_no_entries : None ≡ entries_end s f.value least f.next → read_by (parse_range s) ≡ None
     unfolding parse_range
-    range_no_entries z =
-        let k = head_at_lem s 0 42 f p h in
-        rw (k.is, no_entries s f.value least f.next (omega arith) k.within e q z)
+    range_no_entries q = rw ((head_at_lem s 0 42 f p).is, no_entries s f.value least f.next q)
 
-    module _ (l : e ≡ 0 → ⊥) where
-      pub range_more : e < length s → read_by (parse_range s) ≡ Bad
+    module _ (e : ℕ) (q : Some e ≡ entries_end s f.value least f.next) where
+      pub range_more : e < length s → read_by (parse_range s) ≡ None
       unfolding parse_range
       range_more z =
-          let k = head_at_lem s 0 42 f p h in
-          let t = entries_at s f.value least f.next (omega arith) k.within e q l in
+          let k = head_at_lem s 0 42 f p in
+          let t = entries_at s f.value least f.next k.within e q in
           rw (k.is, t.is, ne_eqb (length (drop e s)) 0 (λ y. omega (arith, length-drop e s)))
 
-      pub range_there : length s ≤ e → read_by (parse_range s) ≡ Range f.value
+      pub range_there : length s ≤ e → read_by (parse_range s) ≡ Some (Range f.value)
       unfolding parse_range
       range_there z =
-          let k = head_at_lem s 0 42 f p h in
-          let t = entries_at s f.value least f.next (omega arith) k.within e q l in
+          let k = head_at_lem s 0 42 f p in
+          let t = entries_at s f.value least f.next k.within e q in
           let c = entries_is f.value least (drop f.next s) (gives t.got (drop e s)) t.is in
-          rw (k.is, t.is, eq-eqb (length (drop e s)) 0 (omega (arith, length-drop e s))) (ap Range c.count)
+          rw (k.is, t.is, eq-eqb (length (drop e s)) 0 (omega (arith, length-drop e s))) (ap (λ (n : ℕ). Some (Range n)) c.count)
 
 -- an integer reply
-module _ (s : List ℕ) (f : Found) (p : f ≡ head_at s 0 58) where
-  pub integer_none : f.next ≡ 0 → read_by (parse_integer s) ≡ Bad
+module _ (s : List ℕ) where
+  pub integer_none : None ≡ head_at s 0 58 → read_by (parse_integer s) ≡ None
   unfolding parse_integer
-  integer_none z = rw (no_head s 0 58 f p z)
+  integer_none p = rw (no_head s 0 58 p)
 
-  module _ (h : f.next ≡ 0 → ⊥) where
-    pub integer_large : 6400 < f.value → read_by (parse_integer s) ≡ Bad
+  module _ (f : Found) (p : Some f ≡ head_at s 0 58) where
+    pub integer_large : 6400 < f.value → read_by (parse_integer s) ≡ None
     unfolding parse_integer
-    integer_large z = rw ((head_at_lem s 0 58 f p h).is, lt-leb f.value 6400 z)
+    integer_large z = rw ((head_at_lem s 0 58 f p).is, lt-leb f.value 6400 z)
 
-    pub integer_more : f.value ≤ 6400 → f.next < length s → read_by (parse_integer s) ≡ Bad
+    pub integer_more : f.value ≤ 6400 → f.next < length s → read_by (parse_integer s) ≡ None
     unfolding parse_integer
-    integer_more k z = rw ((head_at_lem s 0 58 f p h).is, le-leb f.value 6400 k, ne_eqb (length (drop f.next s)) 0 (λ y. omega (arith, length-drop f.next s)))
+    integer_more k z = rw ((head_at_lem s 0 58 f p).is, le-leb f.value 6400 k, ne_eqb (length (drop f.next s)) 0 (λ y. omega (arith, length-drop f.next s)))
 
-    pub integer_there : f.value ≤ 6400 → length s ≤ f.next → read_by (parse_integer s) ≡ Integer f.value
+    pub integer_there : f.value ≤ 6400 → length s ≤ f.next → read_by (parse_integer s) ≡ Some (Integer f.value)
     unfolding parse_integer
-    integer_there k z = rw ((head_at_lem s 0 58 f p h).is, le-leb f.value 6400 k, eq-eqb (length (drop f.next s)) 0 (omega (arith, length-drop f.next s)))
+    integer_there k z = rw ((head_at_lem s 0 58 f p).is, le-leb f.value 6400 k, eq-eqb (length (drop f.next s)) 0 (omega (arith, length-drop f.next s)))
 
 -- an error reply: "-ERR", then f
 abbrev pub err : List ℕ
 err = 45 ∷ 69 ∷ 82 ∷ 82 ∷ []
 
-error_starts : (s : List ℕ) (x : Reply) → parse_error s ≡ some x → take 4 s ≡ err
+error_starts : (s : List ℕ) (x : Reply) → parse_error s ≡ Some x → take 4 s ≡ err
 unfolding parse_error
 error_starts s x e =
     answered (cut_byte 45 s) _ e λ a p e. answered (cut_byte 69 a) _ e λ b q e. answered (cut_byte 82 b) _ e λ c r e. answered (cut_byte 82 c) _ e λ d t e.
     ap (take 4) (byte_is 45 s a p ∙ ap (λ (l : List ℕ). 45 ∷ l) (byte_is 69 a b q ∙ ap (λ (l : List ℕ). 69 ∷ l) (byte_is 82 b c r ∙ ap (λ (l : List ℕ). 82 ∷ l) (byte_is 82 c d t))))
 
 module _ (s : List ℕ) where
-  not_error : (take 4 s ≡ err → ⊥) → read_by (parse_error s) ≡ Bad
+  pub not_error : (take 4 s ≡ err → ⊥) → read_by (parse_error s) ≡ None
   not_error h = go (parse_error s) refl
     where
-      go : (o : Option Reply) → parse_error s ≡ o → read_by o ≡ Bad
-      go none e = refl
-      go (some x) e = absurd (h (error_starts s x e))
+      go : (o : Option Reply) → parse_error s ≡ o → read_by o ≡ None
+      go None e = refl
+      go (Some x) e = absurd (h (error_starts s x e))
 
-  pub error_short : length s < 4 → read_by (parse_error s) ≡ Bad
-  error_short h = not_error λ e. omega (arith, length-take 4 s, ap length e)
-
-  pub error_other : same (take 4 s) err ≡ false → read_by (parse_error s) ≡ Bad
-  error_other h = not_error (same_false (take 4 s) err h)
-
-  module _ (t : same (take 4 s) err ≡ true) (f : Found) (p : f ≡ head_at s 4 32) where
+  module _ (t : take 4 s ≡ err) where
     starts : s ≡ err ++ drop 4 s
-    starts = sym (take-append-drop 4 s) ∙ ap (λ (l : List ℕ). l ++ drop 4 s) (same_true (take 4 s) err t)
+    starts = sym (take-append-drop 4 s) ∙ ap (λ (l : List ℕ). l ++ drop 4 s) t
 
     after : (o : Option (Got ℕ)) → cut_head 32 (drop 4 s) ≡ o → parse_error s ≡ (do
       n ← o
       need (both (leb 1 n.got) (leb n.got 18))
       need (eqb (length n.rest) 0)
-      some (error n.got))
+      Some (error n.got))
     unfolding parse_error cut_byte
     after o e = ap parse_error starts ∙ rw e
 
-    pub error_none : f.next ≡ 0 → read_by (parse_error s) ≡ Bad
-    error_none z = rw (after none (no_head s 4 32 f p z))
+    pub error_none : None ≡ head_at s 4 32 → read_by (parse_error s) ≡ None
+    error_none p = rw (after None (no_head s 4 32 p))
 
-    module _ (h : f.next ≡ 0 → ⊥) where
+    module _ (f : Found) (p : Some f ≡ head_at s 4 32) where
       there_error : parse_error s ≡ (do
         need (both (leb 1 f.value) (leb f.value 18))
         need (eqb (length (drop f.next s)) 0)
-        some (error f.value))
-      there_error = after (some (gives f.value (drop f.next s))) (head_at_lem s 4 32 f p h).is
+        Some (error f.value))
+      there_error = after (Some (gives f.value (drop f.next s))) (head_at_lem s 4 32 f p).is
 
-      pub error_zero : f.value < 1 → read_by (parse_error s) ≡ Bad
+      pub error_zero : f.value < 1 → read_by (parse_error s) ≡ None
       error_zero k = rw (there_error, lt-leb 1 f.value k)
 
       module _ (lo : 1 ≤ f.value) where
-        pub error_high : 18 < f.value → read_by (parse_error s) ≡ Bad
+        pub error_high : 18 < f.value → read_by (parse_error s) ≡ None
         error_high k = rw (there_error, le-leb 1 f.value lo, lt-leb f.value 18 k)
 
-        pub error_more : f.value ≤ 18 → f.next < length s → read_by (parse_error s) ≡ Bad
+        pub error_more : f.value ≤ 18 → f.next < length s → read_by (parse_error s) ≡ None
         error_more k z = rw (there_error, le-leb 1 f.value lo, le-leb f.value 18 k, ne_eqb (length (drop f.next s)) 0 (λ y. omega (arith, length-drop f.next s)))
 
-        pub error_there : f.value ≤ 18 → length s ≤ f.next → read_by (parse_error s) ≡ Error f.value
+        pub error_there : f.value ≤ 18 → length s ≤ f.next → read_by (parse_error s) ≡ Some (Error f.value)
         error_there k z = rw (there_error, le-leb 1 f.value lo, le-leb f.value 18 k, eq-eqb (length (drop f.next s)) 0 (omega (arith, length-drop f.next s)))
 
 -- by the first byte
-pub reply_nothing : (s : List ℕ) → length s ≡ 0 → read_by (parse_reply s) ≡ Bad
+pub reply_nothing : (s : List ℕ) → length s ≡ 0 → read_by (parse_reply s) ≡ None
 unfolding parse_reply parse_error cut_byte
 reply_nothing [] e = refl
 reply_nothing (b ∷ s) e = absurd (omega arith)

@@ -8,78 +8,63 @@ use crate::entry::entries;
 use crate::part::head;
 use id::Id;
 
-// A range reply and how many messages it has, an integer or an error reply and its number, or none of these.
+// A range reply and how many messages it has, an integer, or an error reply and its number.
 #[derive(Clone, Copy)]
 pub enum ReplyRead {
     Range(u64),
     Integer(u64),
     Error(u64),
-    Bad,
 }
 
-fn read_range(s: &[u8]) -> ReplyRead
+fn read_range(s: &[u8]) -> Option<ReplyRead>
     ensures { result ≡ read_by (parse_range s.now) }
 {
-    let n = head(s, 0, resp::ARRAY);
-    if n.next == 0 {
-        return ReplyRead::Bad;
-    }
-    let end = entries(s, n.next, n.value, Id::LEAST);
-    if end == 0 {
-        return ReplyRead::Bad;
-    }
+    let n = head(s, 0, resp::ARRAY)?;
+    let end = entries(s, n.next, n.value, Id::LEAST)?;
     if end < s.len() {
-        return ReplyRead::Bad;
+        return None;
     }
-    ReplyRead::Range(n.value)
+    Some(ReplyRead::Range(n.value))
 }
 
-fn read_integer(s: &[u8]) -> ReplyRead
+fn read_integer(s: &[u8]) -> Option<ReplyRead>
     ensures { result ≡ read_by (parse_integer s.now) }
 {
-    let n = head(s, 0, resp::INTEGER);
-    if n.next == 0 {
-        return ReplyRead::Bad;
-    }
+    let n = head(s, 0, resp::INTEGER)?;
     if 6400 < n.value {
-        return ReplyRead::Bad;
+        return None;
     }
     if n.next < s.len() {
-        return ReplyRead::Bad;
+        return None;
     }
-    ReplyRead::Integer(n.value)
+    Some(ReplyRead::Integer(n.value))
 }
 
-fn read_error(s: &[u8]) -> ReplyRead
+fn read_error(s: &[u8]) -> Option<ReplyRead>
     ensures { result ≡ read_by (parse_error s.now) }
 {
-    if s.len() < 4 {
-        return ReplyRead::Bad;
+    if !s.starts_with(b"-ERR") {
+        return None;
     }
-    if !octets::equal(&s[0..4], b"-ERR") {
-        return ReplyRead::Bad;
-    }
-    let n = head(s, 4, b' ');
-    if n.next == 0 {
-        return ReplyRead::Bad;
-    }
+    let n = head(s, 4, b' ')?;
     if n.value < 1 {
-        return ReplyRead::Bad;
+        return None;
     }
     if 18 < n.value {
-        return ReplyRead::Bad;
+        return None;
     }
     if n.next < s.len() {
-        return ReplyRead::Bad;
+        return None;
     }
-    ReplyRead::Error(n.value)
+    Some(ReplyRead::Error(n.value))
 }
 
-pub fn read(s: &[u8]) -> ReplyRead
+// None of a string that is no reply.
+pub fn read(s: &[u8]) -> Option<ReplyRead>
     ensures { result ≡ read_by (parse_reply s.now) }
 {
     if s.len() == 0 {
-        return ReplyRead::Bad;
+        return None;
     }
     if s[0] == resp::ARRAY {
         return read_range(s);

@@ -16,16 +16,17 @@ pub fn measure_groups(area: &[u8]) -> GroupSizes
     ensures { result ≡ group_sizes (groups_in area.now) }
 {
     let mut size = [0usize; 8];
-    let mut n = 0;
-    while n < MOST_GROUPS {
+    for n in 0..MOST_GROUPS {
         let at = n * REGION_BYTES;
         if area[at] == 0 {
             return GroupSizes { n, size };
         }
         size[n] = group_body::body_size(&area[at..at + REGION_BYTES]);
-        n += 1;
     }
-    GroupSizes { n, size }
+    GroupSizes {
+        n: MOST_GROUPS,
+        size,
+    }
 }
 
 pub fn write_groups(area: &[u8], n: usize, out: &mut [u8], at: usize)
@@ -33,10 +34,8 @@ pub fn write_groups(area: &[u8], n: usize, out: &mut [u8], at: usize)
     ensures { out.new ≡ put out.old at (bodies (map group_part (groups_in area.now))) }
 {
     let mut to = at;
-    let mut k = 0;
-    while k < n {
+    for k in 0..n {
         let from = k * REGION_BYTES;
         to = group_body::write_body(&area[from..from + REGION_BYTES], out, to);
-        k += 1;
     }
 }

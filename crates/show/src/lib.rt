@@ -5,21 +5,6 @@
 use std::io;
 use std::io::Write;
 
-// One digit of a hexadecimal number, in upper case.
-fn digit(n: u8) -> u8 {
-    let low = n % 16;
-    if low < 10 {
-        b'0' + low
-    } else {
-        b'A' + (low - 10)
-    }
-}
-
-fn byte<W: Write>(out: &mut W, b: u8) -> io::Result<()> {
-    let text = [digit(b / 16), digit(b)];
-    out.write_all(&text)
-}
-
 // A label or a separator, as it is.
 pub fn text<W: Write>(out: &mut W, s: &[u8]) -> io::Result<()> {
     out.write_all(s)
@@ -27,11 +12,9 @@ pub fn text<W: Write>(out: &mut W, s: &[u8]) -> io::Result<()> {
 
 // Two digits a byte, each after the separator.
 pub fn hex<W: Write>(out: &mut W, s: &[u8], separator: &[u8]) -> io::Result<()> {
-    let mut i = 0;
-    while i < s.len() {
+    for &b in s {
         text(out, separator)?;
-        byte(out, s[i])?;
-        i += 1;
+        write!(out, "{b:02X}")?;
     }
     Ok(())
 }
@@ -64,20 +47,16 @@ pub fn line<W: Write>(out: &mut W, label: &[u8], s: &[u8]) -> io::Result<()> {
 // A label, a space and a number, on a line.
 pub fn count<W: Write>(out: &mut W, label: &[u8], n: u64) -> io::Result<()> {
     text(out, label)?;
-    text(out, b" ")?;
-    write!(out, "{n}")?;
-    text(out, b"\n")
+    writeln!(out, " {n}")
 }
 
 // Adler-32 (RFC 1950).
 fn checksum(s: &[u8]) -> u64 {
     let mut a: u64 = 1;
     let mut b: u64 = 0;
-    let mut i = 0;
-    while i < s.len() {
-        a = (a + octets::wide(s[i])) % 65521;
+    for &x in s {
+        a = (a + octets::wide(x)) % 65521;
         b = (b + a) % 65521;
-        i += 1;
     }
     b * 65536 + a
 }

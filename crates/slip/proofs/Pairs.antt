@@ -2,7 +2,7 @@
 use mathlib.Core.Path.{◌≡◌, refl, sym, ap, ap₂, ◌∙◌}
 use mathlib.Core.Bool.{true}
 use mathlib.Core.List.{List, [], ◌∷◌, ◌++◌}
-use mathlib.Core.Option.{some}
+use Rattle.std.proofs.Common.{Some}
 use Prim.Native.Nat.{ℕ, zero, suc, ◌<◌}
 use native.Mathlib.Omega.{arith}
 use lib.Dec.{eqb}
@@ -24,7 +24,7 @@ strings_first p ps e =
     let y = both_true (is_string p.field) (is_string p.value) x.0 in
     (y.0, y.1, x.1)
 
-pub parse_pairs_lem : (ps : List Pair) → are_strings ps ≡ true → parse_pairs (length ps) (slip_pairs ps) ≡ some ps
+pub parse_pairs_lem : (ps : List Pair) → are_strings ps ≡ true → parse_pairs (length ps) (slip_pairs ps) ≡ Some ps
 unfolding parse_pairs slip_pairs
 parse_pairs_lem [] e = refl
 parse_pairs_lem (p ∷ ps) e =
@@ -35,7 +35,7 @@ parse_pairs_lem (p ∷ ps) e =
       parse_pairs_lem ps x.2,
     )
 
-pub pairs_count : (n : ℕ) (s : List ℕ) (ps : List Pair) → parse_pairs n s ≡ some ps → length ps ≡ n
+pub pairs_count : (n : ℕ) (s : List ℕ) (ps : List Pair) → parse_pairs n s ≡ Some ps → length ps ≡ n
 unfolding parse_pairs
 pairs_count zero s ps e = needed (eqb (length s) 0) _ e λ p e. ap length (sym (some_is e))
 pairs_count (suc n) s ps e =
@@ -47,7 +47,7 @@ pub record IsPairs (s : List ℕ) (ps : List Pair) : Type 0 where
   pub bytes : s ≡ slip_pairs ps
   pub rules : are_strings ps ≡ true
 
-pub pairs_parse : (n : ℕ) (s : List ℕ) (ps : List Pair) → Bytes s → parse_pairs n s ≡ some ps → IsPairs s ps
+pub pairs_parse : (n : ℕ) (s : List ℕ) (ps : List Pair) → Bytes s → parse_pairs n s ≡ Some ps → IsPairs s ps
 unfolding parse_pairs slip_pairs are_strings
 pairs_parse zero [] ps b e = rw (← some_is e) (record { bytes = refl; rules = refl })
 pairs_parse zero (x ∷ s) ps b e =
@@ -62,13 +62,13 @@ pairs_parse (suc n) s ps b e =
       rules = rw (x.0, y.0) z.rules;
     })
 
-pub parse_slip_lem : (ps : List Pair) → are_pairs ps ≡ true → parse_slip (slip ps) ≡ some ps
+pub parse_slip_lem : (ps : List Pair) → are_pairs ps ≡ true → parse_slip (slip ps) ≡ Some ps
 unfolding parse_slip slip are_pairs
 parse_slip_lem ps e =
     let p = both_true (is_pair_count (length ps)) (are_strings ps) e in
     rw p.0 (parse_pairs_lem ps p.1)
 
-pub slip_parse : (s : List ℕ) (ps : List Pair) → Bytes s → parse_slip s ≡ some ps → (s ≡ slip ps) × (are_pairs ps ≡ true)
+pub slip_parse : (s : List ℕ) (ps : List Pair) → Bytes s → parse_slip s ≡ Some ps → (s ≡ slip ps) × (are_pairs ps ≡ true)
 unfolding parse_slip slip are_pairs
 slip_parse [] ps b e = absurd (let z : ◌≡◌ {A = ℕ} 0 1 = cc in omega arith)
 slip_parse (n ∷ s) ps b e =
@@ -78,7 +78,7 @@ slip_parse (n ∷ s) ps b e =
     (ap₂ (λ (m : ℕ) (l : List ℕ). m ∷ l) (sym k) x.bytes, rw (k, p) x.rules)
 
 -- the first byte of a slip is the number of its pairs
-pub slip_count : (s : List ℕ) (ps : List Pair) → parse_slip s ≡ some ps → (0 < length s) × (get_or s 0 0 ≡ length ps)
+pub slip_count : (s : List ℕ) (ps : List Pair) → parse_slip s ≡ Some ps → (0 < length s) × (get_or s 0 0 ≡ length ps)
 unfolding parse_slip
 slip_count [] ps e = absurd (let z : ◌≡◌ {A = ℕ} 0 1 = cc in omega arith)
 slip_count (n ∷ s) ps e = needed (is_pair_count n) _ e λ p e. (omega arith, sym (pairs_count n s ps e))

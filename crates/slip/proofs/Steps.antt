@@ -2,7 +2,7 @@
 -- Assumes nothing.
 use mathlib.Core.Path.{◌≡◌, sym, ap, ap₂, ◌∙◌}
 use mathlib.Core.List.{List, [], ◌∷◌, ◌++◌}
-use mathlib.Core.Option.{some}
+use Rattle.std.proofs.Common.{Some}
 use Prim.Native.Nat.{ℕ, suc, ◌+◌, ◌-◌, ◌≤◌}
 use native.Mathlib.Omega.{arith}
 use lib.ListN.{length, drop, length-append}
@@ -10,21 +10,20 @@ use Rattle.octets.specs.Place.{area}
 use Rattle.octets.proofs.Laws.{length_area}
 use Rattle.slip.specs.Pair.{Pair, is_pair_count}
 use Rattle.slip.specs.Slip.{slip_string, slip_pairs, slip, parse_pairs, parse_slip}
-use Rattle.slip.specs.Answer.{pairs_by, pairs_in, length_at, cursor, pairs_at, step_of}
+use Rattle.slip.specs.Answer.{pairs_by, pairs_in, length_at, cursor, pairs_at, step_of, found_pair}
 use Rattle.slip.specs.declared.SlipCursor.{SlipCursor}
-use Rattle.slip.specs.declared.SlipStep.TheVariants.{Found}
 use Rattle.octets.proofs.Laws.{needed}
 use Rattle.slip.proofs.Strings.{length_string}
 use Rattle.slip.proofs.Pairs.{pairs_count}
 use Rattle.slip.proofs.Walk.{first_at_lem, step_found}
 
-module _ (s : List ℕ) (ps : List Pair) (e : parse_slip s ≡ some ps) where
+module _ (s : List ℕ) (ps : List Pair) (e : parse_slip s ≡ Some ps) where
   pub pairs_in_lem : pairs_in s ≡ ps
   unfolding pairs_in
   pairs_in_lem = ap pairs_by e
 
 -- before its first pair
-pub pairs_first : (s : List ℕ) (ps : List Pair) → parse_slip s ≡ some ps → pairs_at s (cursor 1 (length ps)) ≡ some ps
+pub pairs_first : (s : List ℕ) (ps : List Pair) → parse_slip s ≡ Some ps → pairs_at s (cursor 1 (length ps)) ≡ Some ps
 unfolding parse_slip pairs_at
 pairs_first [] ps e = absurd (let z : ◌≡◌ {A = ℕ} 0 1 = cc in omega arith)
 pairs_first (n ∷ s) ps e = needed (is_pair_count n) _ e λ p e. ap (λ (k : ℕ). parse_pairs k s) (pairs_count n s ps e) ∙ e
@@ -40,13 +39,13 @@ abbrev pub after : SlipCursor → Pair → SlipCursor
 after c p = cursor (value_at c p + length p.value) (c.left - 1)
 
 pub record Stepped (s : List ℕ) (c : SlipCursor) (p : Pair) (ps : List Pair) : Type 0 where
-  pub step_is : step_of s c ≡ Found (field_at c) (length p.field) (value_at c p) (length p.value) (after c p)
+  pub step_is : step_of s c ≡ found_pair (field_at c) (length p.field) (value_at c p) (length p.value) (after c p)
   pub field_is : area (field_at c) (length p.field) s ≡ p.field
   pub value_is : area (value_at c p) (length p.value) s ≡ p.value
-  pub next_is : pairs_at s (after c p) ≡ some ps
+  pub next_is : pairs_at s (after c p) ≡ Some ps
   pub within : (after c p).at ≤ length s
 
-pub stepped : (s : List ℕ) (c : SlipCursor) (p : Pair) (ps : List Pair) → pairs_at s c ≡ some (p ∷ ps) → Stepped s c p ps
+pub stepped : (s : List ℕ) (c : SlipCursor) (p : Pair) (ps : List Pair) → pairs_at s c ≡ Some (p ∷ ps) → Stepped s c p ps
 unfolding pairs_at
 stepped s c p ps e =
     let l : suc (length ps) ≡ c.left = pairs_count c.left (drop c.at s) (p ∷ ps) e in
@@ -64,7 +63,7 @@ stepped s c p ps e =
       step_is = step_found s c (length p.field) (length p.value) (omega arith) a (b ∙ ap (λ (j : ℕ). length_at s (c.at + 2 + j)) (sym a));
       field_is = ap (λ (j : ℕ). area (c.at + 2) j s) a ∙ sym f;
       value_is = ap₂ (λ (i j : ℕ). area (c.at + 2 + i + 2) j s) a b ∙ sym v;
-      next_is = ap₂ (λ (i j : ℕ). parse_pairs (c.left - 1) (drop (c.at + 2 + i + 2 + j) s)) a b ∙ k.left_is ∙ ap some (sym o);
+      next_is = ap₂ (λ (i j : ℕ). parse_pairs (c.left - 1) (drop (c.at + 2 + i + 2 + j) s)) a b ∙ k.left_is ∙ ap Some (sym o);
       within = omega (arith, k.content.within);
     }
 

@@ -2,7 +2,7 @@
 use mathlib.Core.Path.{◌≡◌, refl, sym, ap, ap₂, ◌∙◌, subst}
 use mathlib.Core.Bool.{Bool, true, false}
 use mathlib.Core.List.{List, [], ◌∷◌, ◌++◌, map}
-use mathlib.Core.Option.{Option, some, none}
+use Rattle.std.proofs.Common.{Option, Some, None}
 use Prim.Native.Nat.{ℕ, ◌+◌, ◌≤◌}
 use native.Mathlib.Omega.{arith}
 use lib.Dec.{leb, eqb}
@@ -41,7 +41,7 @@ use Rattle.snapshot.proofs.Sizes.{parts_count, snapshot_most}
 use Rattle.snapshot.proofs.Snapshots.{SnapshotOf, snapshot_parse, parse_snapshot_lem}
 
 -- the groups of a ledger are accepted
-groups_pass : (last : Id) (above : List ℕ) (gs : List Group) → are_groups last gs ≡ true → names_above above (names_of gs) ≡ true → judge_groups last above (map group_part gs) ≡ some gs
+groups_pass : (last : Id) (above : List ℕ) (gs : List Group) → are_groups last gs ≡ true → names_above above (names_of gs) ≡ true → judge_groups last above (map group_part gs) ≡ Some gs
 unfolding judge_groups names_above
 groups_pass last above [] a n = refl
 groups_pass last above (g ∷ gs) a n =
@@ -50,13 +50,13 @@ groups_pass last above (g ∷ gs) a n =
     rw (body_parse g f.is_group_lem, p.0, f.up_to_lem, groups_pass last g.name gs f.others p.1)
 
 -- so are the nodes of a chain; groups end them
-no_node : (last : Id) (before : List Entry) (gs : List Group) → judge_nodes last before (map group_part gs) ≡ some (nodes_then [] (map group_part gs))
+no_node : (last : Id) (before : List Entry) (gs : List Group) → judge_nodes last before (map group_part gs) ≡ Some (nodes_then [] (map group_part gs))
 unfolding judge_nodes
 no_node last before [] = refl
 no_node last before (g ∷ gs) = refl
 
 nodes_pass : (last : Id) (s : ℕ) (before : List Entry) (ess : List (List Entry)) (gs : List Group) → is_chain last before ess ≡ true
-    → judge_nodes last before (map node_part (numbered_from s ess) ++ map group_part gs) ≡ some (nodes_then ess (map group_part gs))
+    → judge_nodes last before (map node_part (numbered_from s ess) ++ map group_part gs) ≡ Some (nodes_then ess (map group_part gs))
 unfolding judge_nodes numbered_from node_in
 nodes_pass last s before [] gs c = no_node last before gs
 nodes_pass last s before (es ∷ ess) gs c =
@@ -64,7 +64,7 @@ nodes_pass last s before (es ∷ ess) gs c =
     rw (node_body es k.0, does_follow last before es k.1, nodes_pass last (s + 1) es ess gs k.2)
 
 -- a snapshot is accepted as its ledger's
-rest_pass : (l : Ledger) → is_ledger l ≡ true → length (fresh_cut l.messages) ≤ 64 → judge_rest l.last (map node_part (fresh_cut l.messages) ++ map group_part l.groups) ≡ some l
+rest_pass : (l : Ledger) → is_ledger l ≡ true → length (fresh_cut l.messages) ≤ 64 → judge_rest l.last (map node_part (fresh_cut l.messages) ++ map group_part l.groups) ≡ Some l
 unfolding judge_rest
 rest_pass l e h =
     let r = ledger_rules l e in
@@ -78,7 +78,7 @@ rest_pass l e h =
       cut_messages l.messages,
     )
 
-parts_pass : (l : Ledger) → is_ledger l ≡ true → length (fresh_cut l.messages) ≤ 64 → judge_parts (parts_of l) ≡ some l
+parts_pass : (l : Ledger) → is_ledger l ≡ true → length (fresh_cut l.messages) ≤ 64 → judge_parts (parts_of l) ≡ Some l
 unfolding judge_parts parts_of
 parts_pass l e h =
     rw (
@@ -87,7 +87,7 @@ parts_pass l e h =
       rest_pass l e h,
     )
 
-pub snapshot_judge : (l : Ledger) → is_ledger l ≡ true → length (fresh_cut l.messages) ≤ 64 → judge_file (snapshot_of l) ≡ some l
+pub snapshot_judge : (l : Ledger) → is_ledger l ≡ true → length (fresh_cut l.messages) ≤ 64 → judge_file (snapshot_of l) ≡ Some l
 unfolding judge_file snapshot_of
 snapshot_judge l e h =
     rw (read_file_lem (parts_of l) (omega (arith, parts_count l e h)) (unfold snapshot_of in omega (arith, snapshot_most l e h)), parts_pass l e h)
@@ -104,7 +104,7 @@ part_is : (p : Part) (k : ℕ) (bs : List ℕ) → p.kind ≡ k → p.body ≡ b
 part_is p k bs e f = ap₂ part e f
 
 -- a body that is read as a node is its key and its bytes
-pub node_in_lem : (body : List ℕ) (es : List Entry) → Bytes body → node_in body ≡ some es → (body ≡ id_bytes (key_of es) ++ node_bytes es) × (is_node es ≡ true)
+pub node_in_lem : (body : List ℕ) (es : List Entry) → Bytes body → node_in body ≡ Some es → (body ≡ id_bytes (key_of es) ++ node_bytes es) × (is_node es ≡ true)
 unfolding node_in
 node_in_lem body es b e =
     let s = node_bytes_lem (id_from (area 0 16 body)) (drop 16 body) es (bytes_drop 16 b) e in
@@ -119,7 +119,7 @@ record NodesJudged (last : Id) (before : List Entry) (ps : List Part) (x : Nodes
   rest_bytes : Bytes (bodies x.rest)
 
 -- one node more, and none
-nodes_more : (last : Id) (before : List Entry) (p : Part) (ps : List Part) (es : List Entry) (y : Nodes) → Bytes p.body → p.kind ≡ 2 → node_in p.body ≡ some es
+nodes_more : (last : Id) (before : List Entry) (p : Part) (ps : List Part) (es : List Entry) (y : Nodes) → Bytes p.body → p.kind ≡ 2 → node_in p.body ≡ Some es
     → follows last before es ≡ true → NodesJudged last es ps y → NodesJudged last before (p ∷ ps) (nodes_then (es ∷ y.nodes) y.rest)
 unfolding numbered_from
 nodes_more last before p ps es y b k e f j =
@@ -134,14 +134,14 @@ nodes_end : (last : Id) (before : List Entry) (ps : List Part) → Bytes (bodies
 unfolding numbered_from is_chain
 nodes_end last before ps b = record { parts = λ s. refl; chain = refl; rest_bytes = b }
 
-nodes_judged : (last : Id) (before : List Entry) (ps : List Part) (x : Nodes) → Bytes (bodies ps) → judge_nodes last before ps ≡ some x → NodesJudged last before ps x
+nodes_judged : (last : Id) (before : List Entry) (ps : List Part) (x : Nodes) → Bytes (bodies ps) → judge_nodes last before ps ≡ Some x → NodesJudged last before ps x
 unfolding judge_nodes
 nodes_judged last before [] x b e = subst (NodesJudged last before []) (some_is e) (nodes_end last before [] b)
 nodes_judged last before (p ∷ ps) x b e = by (eqb p.kind 2) refl e (λ es y k. nodes_judged last es ps y (first_bytes p ps b).1 k)
   where
     by : (t : Bool) → eqb p.kind 2 ≡ t
-        → pick t (node_in p.body >>= λ es. need (follows last before es) >> (judge_nodes last es ps >>= λ y. some (nodes_then (es ∷ y.nodes) y.rest))) (some (nodes_then [] (p ∷ ps))) ≡ some x
-        → ((es : List Entry) (y : Nodes) → judge_nodes last es ps ≡ some y → NodesJudged last es ps y) → NodesJudged last before (p ∷ ps) x
+        → pick t (node_in p.body >>= λ es. need (follows last before es) >> (judge_nodes last es ps >>= λ y. Some (nodes_then (es ∷ y.nodes) y.rest))) (Some (nodes_then [] (p ∷ ps))) ≡ Some x
+        → ((es : List Entry) (y : Nodes) → judge_nodes last es ps ≡ Some y → NodesJudged last es ps y) → NodesJudged last before (p ∷ ps) x
     by true q e h =
         answered (node_in p.body) _ e λ es n k.
         needed (follows last before es) _ k λ f k2.
@@ -158,7 +158,7 @@ groups_end : (last : Id) (above : List ℕ) → GroupsJudged last above [] []
 unfolding are_groups names_above
 groups_end last above = record { parts = refl; groups = refl; rising = refl }
 
-groups_more : (last : Id) (above : List ℕ) (p : Part) (ps : List Part) (g : Group) (gs : List Group) → Bytes p.body → p.kind ≡ 3 → parse_body p.body ≡ some g
+groups_more : (last : Id) (above : List ℕ) (p : Part) (ps : List Part) (g : Group) (gs : List Group) → Bytes p.body → p.kind ≡ 3 → parse_body p.body ≡ Some g
     → both (comes_before above g.name) (pending_up_to last g.pending) ≡ true → GroupsJudged last g.name ps gs → GroupsJudged last above (p ∷ ps) (g ∷ gs)
 unfolding names_above
 groups_more last above p ps g gs b k e t j =
@@ -170,7 +170,7 @@ groups_more last above p ps g gs b k e t j =
       rising = both_of q.0 j.rising;
     }
 
-groups_judged : (last : Id) (above : List ℕ) (ps : List Part) (gs : List Group) → Bytes (bodies ps) → judge_groups last above ps ≡ some gs → GroupsJudged last above ps gs
+groups_judged : (last : Id) (above : List ℕ) (ps : List Part) (gs : List Group) → Bytes (bodies ps) → judge_groups last above ps ≡ Some gs → GroupsJudged last above ps gs
 unfolding judge_groups
 groups_judged last above [] gs b e = subst (GroupsJudged last above []) (some_is e) (groups_end last above)
 groups_judged last above (p ∷ ps) gs b e =
@@ -208,7 +208,7 @@ ledger_judged p ps x gs b k l n few g most =
           (n.parts 0 ∙ ap₂ (λ (a b : List Part). a ++ b) (ap (map node_part) (sym c)) g.parts);
     }
 
-parts_judged : (ps : List Part) (l : Ledger) → Bytes (bodies ps) → judge_parts ps ≡ some l → PartsJudged ps l
+parts_judged : (ps : List Part) (l : Ledger) → Bytes (bodies ps) → judge_parts ps ≡ Some l → PartsJudged ps l
 unfolding judge_parts judge_rest
 parts_judged [] l b e = absurd (let y : ◌≡◌ {A = ℕ} 0 1 = cc in omega arith)
 parts_judged (p ∷ ps) l b e =
@@ -224,7 +224,7 @@ parts_judged (p ∷ ps) l b e =
     (ledger_judged p ps x gs w.0 (eqb-true p.kind 1 q.0) (eqb-true (length p.body) 16 q.1) j (leb-true (length x.nodes) 64 u)
     (groups_judged (id_from p.body) [] x.rest gs j.rest_bytes g) (leb-true (length gs) 8 v))
 
-pub judge_snapshot : (f : List ℕ) (l : Ledger) → Bytes f → judge_file f ≡ some l → SnapshotOf f l
+pub judge_snapshot : (f : List ℕ) (l : Ledger) → Bytes f → judge_file f ≡ Some l → SnapshotOf f l
 unfolding judge_file snapshot_of
 judge_snapshot f l b e =
     answered (read_file f) _ e λ ps r k.
@@ -237,10 +237,10 @@ pub judge_is : (f : List ℕ) → Bytes f → judge_file f ≡ parse_snapshot f
 judge_is f b = by (judge_file f) (parse_snapshot f) refl refl
   where
     by : (o p : Option Ledger) → judge_file f ≡ o → parse_snapshot f ≡ p → o ≡ p
-    by (some l) p e q =
+    by (Some l) p e q =
         let s = judge_snapshot f l b e in
         sym (snapshot_parse l s.is_ledger_lem s.few_nodes) ∙ ap parse_snapshot (sym s.bytes) ∙ q
-    by none (some l) e q =
+    by None (Some l) e q =
         let s = parse_snapshot_lem f l q in
         sym e ∙ ap judge_file s.bytes ∙ snapshot_judge l s.is_ledger_lem s.few_nodes
-    by none none e q = refl
+    by None None e q = refl

@@ -2,7 +2,7 @@
 use mathlib.Core.Path.{◌≡◌, refl, sym, ap, ◌∙◌}
 use mathlib.Core.Bool.{true}
 use mathlib.Core.List.{List, [], ◌∷◌, ◌++◌, append_assoc, map}
-use mathlib.Core.Option.{some}
+use Rattle.std.proofs.Common.{Some}
 use Prim.Native.Nat.{ℕ, suc, ◌+◌, ◌*◌, ◌^◌, ◌<◌}
 use native.Mathlib.Omega.{arith}
 use lib.ListN.{length, drop, get_or, length-append}
@@ -33,17 +33,17 @@ abbrev taken : List ℕ → List ℕ → Taken
 taken bs rest = record { bytes = bs; rest = rest }
 
 -- what stands in front is taken
-front : (n : ℕ) (xs ys : List ℕ) → length xs ≡ n → take_bytes n (xs ++ ys) ≡ some (taken xs ys)
+front : (n : ℕ) (xs ys : List ℕ) → length xs ≡ n → take_bytes n (xs ++ ys) ≡ Some (taken xs ys)
 unfolding take_bytes
 front n xs ys e =
     rw (le-leb n (length (xs ++ ys)) (omega (arith, length-append xs ys)), take_at xs ys n e, drop_at xs ys n e)
 
-parts_step : (n : ℕ) (row rest body file : List ℕ) (ps : List Part) → length row ≡ 9 → le_value (area 5 4 row) ≡ length body → take_parts n rest file ≡ some ps
-    → take_parts (suc n) (row ++ rest) (body ++ file) ≡ some (part (get_or row 0 0) body ∷ ps)
+parts_step : (n : ℕ) (row rest body file : List ℕ) (ps : List Part) → length row ≡ 9 → le_value (area 5 4 row) ≡ length body → take_parts n rest file ≡ Some ps
+    → take_parts (suc n) (row ++ rest) (body ++ file) ≡ Some (part (get_or row 0 0) body ∷ ps)
 unfolding take_parts
 parts_step n row rest body file ps l z r = rw (front 9 row rest l, front (le_value (area 5 4 row)) body file (sym z), r)
 
-parts_taken : (offset : ℕ) (ps : List Part) → length (bodies ps) < 2 ^ 32 → take_parts (length ps) (contents offset ps) (bodies ps) ≡ some ps
+parts_taken : (offset : ℕ) (ps : List Part) → length (bodies ps) < 2 ^ 32 → take_parts (length ps) (contents offset ps) (bodies ps) ≡ Some ps
 unfolding bodies contents
 parts_taken offset [] h = unfold take_parts in refl
 parts_taken offset (p ∷ ps) h =
@@ -61,7 +61,7 @@ parts_taken offset (p ∷ ps) h =
     size : (k offset s : ℕ) → area 5 4 (k ∷ (le 4 offset ++ le 4 s)) ≡ le 4 s
     size k offset s = area_right (k ∷ le 4 offset) (le 4 s) 5 4 (omega (arith, length_le 4 offset)) (length_le 4 s)
 
-pub parse_file_lem : (ps : List Part) → length ps < 65536 → length (bodies ps) < 2 ^ 32 → parse_file (file_of ps) ≡ some ps
+pub parse_file_lem : (ps : List Part) → length ps < 65536 → length (bodies ps) < 2 ^ 32 → parse_file (file_of ps) ≡ Some ps
 unfolding parse_file file_of
 parse_file_lem ps h b =
     let n : ℕ = length ps in
@@ -73,29 +73,29 @@ parse_file_lem ps h b =
 
 -- a node's body: its key and its listpack
 pub node_body : (es : List Entry) → is_node es ≡ true
-    → parse_node (id_from (area 0 16 (id_bytes (key_of es) ++ node_bytes es))) (drop 16 (id_bytes (key_of es) ++ node_bytes es)) ≡ some es
+    → parse_node (id_from (area 0 16 (id_bytes (key_of es) ++ node_bytes es))) (drop 16 (id_bytes (key_of es) ++ node_bytes es)) ≡ Some es
 node_body es h =
     let i : List ℕ = id_bytes (key_of es) in
     let l : length i ≡ 16 = length_id_bytes (key_of es) in
     rw (area_left i (node_bytes es) 16 l, from_bytes_of (key_of es) (key_fits es (is_node_lem es h).messages), drop_at i (node_bytes es) 16 l) (node_parse es h)
 
-read_node_lem : (es : List Entry) → is_node es ≡ true → read_node (id_bytes (key_of es) ++ node_bytes es) ≡ some (live_in es)
+read_node_lem : (es : List Entry) → is_node es ≡ true → read_node (id_bytes (key_of es) ++ node_bytes es) ≡ Some (live_in es)
 unfolding read_node
 read_node_lem es h = rw (node_body es h)
 
 abbrev held_as : List Message → List Group → Held
 held_as ms gs = record { messages = ms; groups = gs }
 
-read_groups : (last : Id) (gs : List Group) → are_groups last gs ≡ true → read_parts (map group_part gs) ≡ some (held_as [] gs)
+read_groups : (last : Id) (gs : List Group) → are_groups last gs ≡ true → read_parts (map group_part gs) ≡ Some (held_as [] gs)
 unfolding read_parts
 read_groups last [] a = refl
 read_groups last (g ∷ gs) a = let f = first last g gs a in rw (read_groups last gs f.others, body_parse g f.is_group_lem)
 
 pub read_parts_lem : (slots : ℕ) (last : Id) (ns : List Node) (gs : List Group) → are_nodes slots ns ≡ true → are_groups last gs ≡ true
-    → read_parts (map node_part ns ++ map group_part gs) ≡ some (held_as (messages_of ns) gs)
+    → read_parts (map node_part ns ++ map group_part gs) ≡ Some (held_as (messages_of ns) gs)
 unfolding read_parts
 read_parts_lem slots last [] gs n a = read_groups last gs a ∙ (unfold entries_of in unfold live_in in refl)
 read_parts_lem slots last (n ∷ ns) gs h a =
     let f = first_node slots n ns h in
     rw (read_parts_lem slots last ns gs f.others a, read_node_lem n.entries f.is_node_lem)
-    (ap (λ (ms : List Message). some (held_as ms gs)) (sym (messages_node n ns)))
+    (ap (λ (ms : List Message). Some (held_as ms gs)) (sym (messages_node n ns)))

@@ -1,7 +1,7 @@
 -- The rows of a file that was read: the r-th part is the one whose row is the r-th, and it lies inside the file. Assumes nothing.
 use mathlib.Core.Path.{◌≡◌, refl, sym, ap, ap₂, ◌∙◌, subst}
 use mathlib.Core.List.{List, [], ◌∷◌}
-use mathlib.Core.Option.{some}
+use Rattle.std.proofs.Common.{Some}
 use Prim.Native.Nat.{ℕ, zero, suc, ◌+◌, ◌*◌, ◌≤◌, ◌<◌}
 use native.Mathlib.Omega.{arith}
 use lib.Dec.{leb, eqb}
@@ -43,7 +43,7 @@ row_later at r f p ps qs e a =
           ∙ ap (λ (x : List Part). part_at f (at + 9 + 9 * r) ∷ drop (suc r + 1) x) e;
     })
 
-rows_in : (n at offset r : ℕ) (f : List ℕ) (ps : List Part) → rows_left n at offset f ≡ some ps → r < n → RowAt f (at + 9 * r) r ps
+rows_in : (n at offset r : ℕ) (f : List ℕ) (ps : List Part) → rows_left n at offset f ≡ Some ps → r < n → RowAt f (at + 9 * r) r ps
 unfolding rows_left
 rows_in zero at offset r f ps e h = absurd (omega arith)
 rows_in (suc n) at offset r f ps e h =
@@ -58,9 +58,9 @@ rows_in (suc n) at offset r f ps e h =
     by zero h qs o l e k = row_here at offset (le_value (area (at + 5) 4 f)) f ps qs o refl l e
     by (suc r) h qs o l e k = row_later at r f (part (get_or f at 0) (area offset (le_value (area (at + 5) 4 f)) f)) ps qs e (k r (omega arith))
 
-rows_count : (n at offset : ℕ) (f : List ℕ) (ps : List Part) → rows_left n at offset f ≡ some ps → length ps ≡ n
+rows_count : (n at offset : ℕ) (f : List ℕ) (ps : List Part) → rows_left n at offset f ≡ Some ps → length ps ≡ n
 unfolding rows_left
-rows_count zero at offset f ps e = needed (eqb offset (length f)) (some []) e λ t k. ap length (sym (some_is k))
+rows_count zero at offset f ps e = needed (eqb offset (length f)) (Some []) e λ t k. ap length (sym (some_is k))
 rows_count (suc n) at offset f ps e =
     let s : ℕ = le_value (area (at + 5) 4 f) in
     needed (eqb (le_value (area (at + 1) 4 f)) offset) _ e λ t k.
@@ -74,7 +74,7 @@ pub record FileRows (f : List ℕ) (ps : List Part) : Type 0 where
   pub contents_inside : 3 + 9 * length ps ≤ length f
   pub row_at : (r : ℕ) → r < length ps → RowAt f (3 + 9 * r) r ps
 
-pub file_rows : (f : List ℕ) (ps : List Part) → read_file f ≡ some ps → FileRows f ps
+pub file_rows : (f : List ℕ) (ps : List Part) → read_file f ≡ Some ps → FileRows f ps
 unfolding read_file
 file_rows f ps e =
     let n : ℕ = le_value (area 1 2 f) in

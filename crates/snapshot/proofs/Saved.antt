@@ -2,12 +2,15 @@
 use mathlib.Core.Path.{◌≡◌, refl, sym, ap, ◌∙◌, subst}
 use mathlib.Core.Bool.{Bool, true, false}
 use mathlib.Core.List.{List}
-use mathlib.Core.Option.{Option, some, none}
+use Rattle.std.proofs.Common.{Option, Some, None}
 use Prim.Native.Nat.{ℕ, ◌≤◌, ◌<◌}
 use native.Mathlib.Omega.{arith}
 use lib.Dec.{leb, eqb}
 use lib.ListN.{length}
 use borrow.Author.Tests.{le-leb, lt-leb, leb-true, eq-eqb, ne_eqb, eqb-false}
+use Rattle.refusal.specs.declared.Refusal.{Refusal}
+use Rattle.refusal.specs.Number.{number_of}
+use Rattle.refusal.specs.declared.Refusal.TheVariants.{NoSlot, ShortOutput, MostNodes, NoSnapshot, SmallStore}
 use Rattle.octets.specs.Pick.{pick}
 use Rattle.octets.proofs.Laws.{pick_by}
 use Rattle.stream.specs.Ledger.{Ledger, is_ledger}
@@ -30,7 +33,7 @@ unfolding save_reply
 save_accepted room l f e = by (leb (length (fresh_cut l.messages)) 64) refl (leb (length (snapshot_of l)) room) refl e
   where
     by : (s : Bool) → leb (length (fresh_cut l.messages)) 64 ≡ s → (t : Bool) → leb (length (snapshot_of l)) room ≡ t
-        → pick s (pick t (written (snapshot_of l)) (refused 8)) (refused 15) ≡ written f → SaveAccepted room l f
+        → pick s (pick t (written (snapshot_of l)) (refused ShortOutput)) (refused MostNodes) ≡ written f → SaveAccepted room l f
     by true p true q e =
         let z : f ≡ snapshot_of l = cc in
         record { few_nodes = leb-true (length (fresh_cut l.messages)) 64 p; has_room_lem = omega (arith, ap length z, leb-true (length (snapshot_of l)) room q); bytes = z }
@@ -48,7 +51,7 @@ pub record LoadAccepted (slots : ℕ) (f : List ℕ) (l : Ledger) : Type 0 where
   pub fits : length (fresh_cut l.messages) ≤ slots
 
 abbrev Loads : ℕ → List ℕ → Loading → Type 0
-Loads slots f (refusing n) = 1 ≤ n
+Loads slots f (refusing r) = 1 ≤ number_of r
 Loads slots f (loading l) = LoadAccepted slots f l
 
 pub load_means : (slots : ℕ) (f : List ℕ) → Loads slots f (loads slots f)
@@ -58,11 +61,11 @@ load_means slots f = by (eqb slots 0) refl (parse_snapshot f) refl
     some_slot : (slots ≡ 0 → ⊥) → 1 ≤ slots
     some_slot n = omega arith
 
-    by : (s : Bool) → eqb slots 0 ≡ s → (o : Option Ledger) → parse_snapshot f ≡ o → Loads slots f (pick s (refusing 1) (loading_of slots o))
+    by : (s : Bool) → eqb slots 0 ≡ s → (o : Option Ledger) → parse_snapshot f ≡ o → Loads slots f (pick s (refusing NoSlot) (loading_of slots o))
     by true z o p = omega arith
-    by false z none p = omega arith
-    by false z (some l) p =
-        pick_by (Loads slots f) (leb (length (fresh_cut l.messages)) slots) (loading l) (refusing 17)
+    by false z None p = omega arith
+    by false z (Some l) p =
+        pick_by (Loads slots f) (leb (length (fresh_cut l.messages)) slots) (loading l) (refusing SmallStore)
         (λ q. record { snapshot = parse_snapshot_lem f l p; has_slots = some_slot (eqb-false slots 0 z); fits = leb-true (length (fresh_cut l.messages)) slots q })
         (λ q. omega arith)
 
@@ -70,25 +73,25 @@ module _ (slots : ℕ) (f : List ℕ) where
   pub load_accepted : (l : Ledger) → loads slots f ≡ loading l → LoadAccepted slots f l
   load_accepted l e = subst (Loads slots f) e (load_means slots f)
 
-  pub load_refused : (n : ℕ) → loads slots f ≡ refusing n → 1 ≤ n
-  load_refused n e = subst (Loads slots f) e (load_means slots f)
+  pub load_refused : (r : Refusal) → loads slots f ≡ refusing r → 1 ≤ number_of r
+  load_refused r e = subst (Loads slots f) e (load_means slots f)
 
   -- the model that a load leaves keeps every rule
   pub load_model : (l : Ledger) → loads slots f ≡ loading l → is_model slots (loaded l) ≡ true
   load_model l e = let a = load_accepted l e in fresh_model slots l a.snapshot.is_ledger_lem a.fits
 
   -- what it does, by its tests
-  pub load_no_slot : slots ≡ 0 → loads slots f ≡ refusing 1
+  pub load_no_slot : slots ≡ 0 → loads slots f ≡ refusing NoSlot
   unfolding loads
   load_no_slot z = rw (eq-eqb slots 0 z)
 
   module _ (z : slots ≡ 0 → ⊥) where
-    pub load_no_snapshot : parse_snapshot f ≡ none → loads slots f ≡ refusing 16
+    pub load_no_snapshot : parse_snapshot f ≡ None → loads slots f ≡ refusing NoSnapshot
     unfolding loads
     load_no_snapshot p = rw (ne_eqb slots 0 z, p)
 
-    module _ (l : Ledger) (p : parse_snapshot f ≡ some l) where
-      pub load_too_many : slots < length (fresh_cut l.messages) → loads slots f ≡ refusing 17
+    module _ (l : Ledger) (p : parse_snapshot f ≡ Some l) where
+      pub load_too_many : slots < length (fresh_cut l.messages) → loads slots f ≡ refusing SmallStore
       unfolding loads
       load_too_many h = rw (ne_eqb slots 0 z, p, lt-leb (length (fresh_cut l.messages)) slots h)
 

@@ -2,7 +2,7 @@
 use mathlib.Core.Path.{◌≡◌, refl, ap}
 use mathlib.Core.Bool.{true}
 use mathlib.Core.List.{List, [], ◌∷◌}
-use mathlib.Core.Option.{Option, some, none}
+use Rattle.std.proofs.Common.{Option, Some, None}
 use Prim.Native.Nat.{ℕ, ◌+◌, ◌*◌, ◌≤◌, ◌<◌}
 use native.Mathlib.Omega.{arith}
 use lib.Dec.{leb}
@@ -36,8 +36,8 @@ element_least x s = by (pattern_of x) refl
     short = omega (arith, is_string_lem x s)
 
     by : (o : Option ℕ) → pattern_of x ≡ o → length x ≤ length (element x) + 18
-    by none e = omega (arith, element_size_lem x short, size_text x short e, text_bounds (length x))
-    by (some p) e = omega (arith, element_bounds x, text_length p, ap length (text_of_pattern x p e))
+    by None e = omega (arith, element_size_lem x short, size_text x short e, text_bounds (length x))
+    by (Some p) e = omega (arith, element_bounds x, text_length p, ap length (text_of_pattern x p e))
 
 pairs_most : (ps : List Pair) → are_strings ps ≡ true → length (slip_pairs ps) ≤ size_of (fields_of ps) + size_of (values_of ps) + 40 * length ps
 unfolding size_of elements

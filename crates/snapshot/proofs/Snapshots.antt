@@ -3,7 +3,7 @@
 use mathlib.Core.Path.{◌≡◌, sym, ap, ◌∙◌}
 use mathlib.Core.Bool.{true}
 use mathlib.Core.List.{List}
-use mathlib.Core.Option.{some}
+use Rattle.std.proofs.Common.{Some}
 use Prim.Native.Nat.{ℕ, ◌≤◌}
 use native.Mathlib.Omega.{arith}
 use lib.Dec.{leb}
@@ -22,7 +22,7 @@ use Rattle.snapshot.proofs.Loose.{parse_file_lem, read_parts_lem}
 use Rattle.snapshot.proofs.Sizes.{parts_count, bodies_most}
 
 -- the parts of a ledger are read as that ledger
-read_ledger_lem : (l : Ledger) → is_ledger l ≡ true → length (fresh_cut l.messages) ≤ 64 → read_ledger (parts_of l) ≡ some l
+read_ledger_lem : (l : Ledger) → is_ledger l ≡ true → length (fresh_cut l.messages) ≤ 64 → read_ledger (parts_of l) ≡ Some l
 unfolding parts_of
 read_ledger_lem l e h =
     let r = ledger_rules l e in
@@ -32,7 +32,7 @@ read_ledger_lem l e h =
       fresh_messages l.messages,
     )
 
-pub snapshot_parse : (l : Ledger) → is_ledger l ≡ true → length (fresh_cut l.messages) ≤ 64 → parse_snapshot (snapshot_of l) ≡ some l
+pub snapshot_parse : (l : Ledger) → is_ledger l ≡ true → length (fresh_cut l.messages) ≤ 64 → parse_snapshot (snapshot_of l) ≡ Some l
 unfolding parse_snapshot snapshot_of
 snapshot_parse l e h =
     rw (
@@ -49,14 +49,14 @@ pub record SnapshotOf (f : List ℕ) (l : Ledger) : Type 0 where
   pub few_nodes : length (fresh_cut l.messages) ≤ 64
   pub bytes : f ≡ snapshot_of l
 
-pub parse_snapshot_lem : (f : List ℕ) (l : Ledger) → parse_snapshot f ≡ some l → SnapshotOf f l
+pub parse_snapshot_lem : (f : List ℕ) (l : Ledger) → parse_snapshot f ≡ Some l → SnapshotOf f l
 unfolding parse_snapshot
 parse_snapshot_lem f l e =
     answered (parse_file f) _ e λ ps p k1.
     answered (read_ledger ps) _ k1 λ m q k2.
     needed (is_ledger m) _ k2 λ r k3.
     needed (leb (length (fresh_cut m.messages)) most_slots) _ k3 λ t k4.
-    needed (same (snapshot_of m) f) (some m) k4 λ u k5.
+    needed (same (snapshot_of m) f) (Some m) k4 λ u k5.
     let z : m ≡ l = some_is k5 in
     record {
       is_ledger_lem = ap is_ledger (sym z) ∙ r;

@@ -1,7 +1,7 @@
 -- A file's contents table and its bodies: what is written is read back, and what is read was written so. Assumes nothing.
 use mathlib.Core.Path.{◌≡◌, refl, sym, ap, ap₂, ◌∙◌, subst}
 use mathlib.Core.List.{List, [], ◌∷◌, ◌++◌, append_assoc}
-use mathlib.Core.Option.{some}
+use Rattle.std.proofs.Common.{Some}
 use Prim.Native.Nat.{ℕ, zero, suc, ◌+◌, ◌*◌, ◌^◌, ◌≤◌, ◌<◌}
 use native.Mathlib.Omega.{arith}
 use lib.Dec.{leb, eqb}
@@ -80,11 +80,11 @@ module _ (f pre rest : List ℕ) (at offset : ℕ) (p : Part) (e : f ≡ pre ++ 
 -- the rows from a place on: `pre` stands before them, `mid` are the bodies of those before
 module _ (n at offset s : ℕ) (f : List ℕ) (p : Part) (ps : List Part) where
   rows_step : le_value (area (at + 1) 4 f) ≡ offset → le_value (area (at + 5) 4 f) ≡ s → offset + s ≤ length f → get_or f at 0 ≡ p.kind
-      → area offset s f ≡ p.body → rows_left n (at + 9) (offset + s) f ≡ some ps → rows_left (suc n) at offset f ≡ some (p ∷ ps)
+      → area offset s f ≡ p.body → rows_left n (at + 9) (offset + s) f ≡ Some ps → rows_left (suc n) at offset f ≡ Some (p ∷ ps)
   unfolding rows_left
   rows_step a b l k c r = rw (b, eq-eqb (le_value (area (at + 1) 4 f)) offset a, le-leb (offset + s) (length f) l, r, k, c)
 
-rows_end : (at offset : ℕ) (f : List ℕ) → offset ≡ length f → rows_left 0 at offset f ≡ some []
+rows_end : (at offset : ℕ) (f : List ℕ) → offset ≡ length f → rows_left 0 at offset f ≡ Some []
 unfolding rows_left
 rows_end at offset f e = rw (eq-eqb offset (length f) e)
 
@@ -99,7 +99,7 @@ laid_length ps pre mid offset =
     )
 
 rows_read : (ps : List Part) (f pre mid : List ℕ) (at offset : ℕ) → f ≡ pre ++ (contents offset ps ++ (mid ++ bodies ps)) → length pre ≡ at
-    → offset ≡ at + 9 * length ps + length mid → offset + length (bodies ps) < 2 ^ 32 → rows_left (length ps) at offset f ≡ some ps
+    → offset ≡ at + 9 * length ps + length mid → offset + length (bodies ps) < 2 ^ 32 → rows_left (length ps) at offset f ≡ Some ps
 rows_read [] f pre mid at offset e l o h =
     let n : offset ≡ length f = omega (arith, ap length e, laid_length [] pre mid offset, none) in
     rows_end at offset f n
@@ -154,12 +154,12 @@ rows_read (p ∷ ps) f pre mid at offset e l o h =
         )
 
 file_step : (n : ℕ) (f : List ℕ) (ps : List Part) → 3 ≤ length f → get_or f 0 0 ≡ 1 → le_value (area 1 2 f) ≡ n → 3 + 9 * n ≤ length f
-    → rows_left n 3 (3 + 9 * n) f ≡ some ps → read_file f ≡ some ps
+    → rows_left n 3 (3 + 9 * n) f ≡ Some ps → read_file f ≡ Some ps
 unfolding read_file
 file_step n f ps h v c l r = rw (c, le-leb 3 (length f) h, eq-eqb (get_or f 0 0) 1 v, le-leb (3 + 9 * n) (length f) l, r)
 
 -- a file of parts is read as these parts
-pub read_file_lem : (ps : List Part) → length ps < 65536 → length (file_of ps) < 2 ^ 32 → read_file (file_of ps) ≡ some ps
+pub read_file_lem : (ps : List Part) → length ps < 65536 → length (file_of ps) < 2 ^ 32 → read_file (file_of ps) ≡ Some ps
 read_file_lem ps h l =
     let m = length_file ps in
     file_step (length ps) (file_of ps) ps (omega arith) version number (omega arith)
@@ -217,10 +217,10 @@ rows_more n at offset s f ps b l o z h r =
       rest = sym (rest_first offset s f) ∙ ap (λ (x : List ℕ). area offset s f ++ x) r.rest;
     }
 
-rows_file : (n at offset : ℕ) (f : List ℕ) (ps : List Part) → Bytes f → at + 9 * n ≤ length f → rows_left n at offset f ≡ some ps → RowsRead n at offset f ps
+rows_file : (n at offset : ℕ) (f : List ℕ) (ps : List Part) → Bytes f → at + 9 * n ≤ length f → rows_left n at offset f ≡ Some ps → RowsRead n at offset f ps
 unfolding rows_left
 rows_file zero at offset f ps b l e =
-    needed (eqb offset (length f)) (some []) e λ t k.
+    needed (eqb offset (length f)) (Some []) e λ t k.
     subst (RowsRead zero at offset f) (some_is k)
     (record {
       count = refl;
@@ -255,7 +255,7 @@ file_is n f ps b l v c r =
       bodies_bytes = subst Bytes r.rest (bytes_drop (3 + 9 * n) b);
     }
 
-pub file_read : (f : List ℕ) (ps : List Part) → Bytes f → read_file f ≡ some ps → FileRead f ps
+pub file_read : (f : List ℕ) (ps : List Part) → Bytes f → read_file f ≡ Some ps → FileRead f ps
 unfolding read_file
 file_read f ps b e =
     let n : ℕ = le_value (area 1 2 f) in

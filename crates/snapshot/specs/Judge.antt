@@ -1,8 +1,7 @@
 -- The structural test of a file, in the order in which load makes it: the contents table; the last ID; each node by itself and after
 -- the one before; each group by itself and after the one before. It accepts exactly the snapshots: proofs/Laws, `judge_is`.
 -- Assumes nothing.
-use Rattle.std.specs.Prelude.{List, [], ◌∷◌, ℕ, zero, suc, ◌+◌, ◌*◌, leb, eqb, length, drop, get_or}
-use Rattle.std.proofs.Math.Option.{Option, some, none}
+use Rattle.std.specs.Prelude.{List, [], ◌∷◌, ℕ, zero, suc, ◌+◌, ◌*◌, leb, eqb, length, drop, get_or, Option, Some, None}
 use Rattle.octets.specs.Pick.{pick, both}
 use Rattle.octets.specs.Maybe.{◌>>=◌, ◌>>◌, need}
 use Rattle.octets.specs.Bytes.{le_value}
@@ -24,12 +23,12 @@ use Rattle.snapshot.specs.Bytes.{Part, part}
 unfoldable pub rows_left : ℕ → ℕ → ℕ → List ℕ → Option (List Part)
 rows_left zero at offset f = do
   need (eqb offset (length f))
-  some []
+  Some []
 rows_left (suc n) at offset f = do
   need (eqb (le_value (area (at + 1) 4 f)) offset)
   need (leb (offset + le_value (area (at + 5) 4 f)) (length f))
   ps ← rows_left n (at + 9) (offset + le_value (area (at + 5) 4 f)) f
-  some (part (get_or f at 0) (area offset (le_value (area (at + 5) 4 f)) f) ∷ ps)
+  Some (part (get_or f at 0) (area offset (le_value (area (at + 5) 4 f)) f) ∷ ps)
 
 -- version 1, count, contents, bodies back to back and nothing after
 unfoldable pub read_file : List ℕ → Option (List Part)
@@ -55,25 +54,25 @@ abbrev pub nodes_then : List (List Entry) → List Part → Nodes
 nodes_then ess ps = record { nodes = ess; rest = ps }
 
 unfoldable pub judge_nodes : Id → List Entry → List Part → Option Nodes
-judge_nodes last before [] = some (nodes_then [] [])
+judge_nodes last before [] = Some (nodes_then [] [])
 judge_nodes last before (p ∷ ps) =
     pick (eqb p.kind 2)
     (do
       es ← node_in p.body
       need (follows last before es)
       x ← judge_nodes last es ps
-      some (nodes_then (es ∷ x.nodes) x.rest))
-    (some (nodes_then [] (p ∷ ps)))
+      Some (nodes_then (es ∷ x.nodes) x.rest))
+    (Some (nodes_then [] (p ∷ ps)))
 
 -- groups to the end, each after a name, with nothing pending above the last ID
 unfoldable pub judge_groups : Id → List ℕ → List Part → Option (List Group)
-judge_groups last above [] = some []
+judge_groups last above [] = Some []
 judge_groups last above (p ∷ ps) = do
   need (eqb p.kind 3)
   g ← parse_body p.body
   need (both (comes_before above g.name) (pending_up_to last g.pending))
   gs ← judge_groups last g.name ps
-  some (g ∷ gs)
+  Some (g ∷ gs)
 
 -- the ledger of these nodes and groups
 abbrev pub ledger_with : Id → List (List Entry) → List Group → Ledger
@@ -86,11 +85,11 @@ judge_rest last ps = do
   need (leb (length x.nodes) most_slots)
   gs ← judge_groups last [] x.rest
   need (leb (length gs) most_groups)
-  some (ledger_with last x.nodes gs)
+  Some (ledger_with last x.nodes gs)
 
 -- kind 1, once, first
 unfoldable pub judge_parts : List Part → Option Ledger
-judge_parts [] = none
+judge_parts [] = None
 judge_parts (p ∷ ps) = do
   need (both (eqb p.kind 1) (eqb (length p.body) 16))
   judge_rest (id_from p.body) ps

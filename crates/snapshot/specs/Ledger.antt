@@ -9,7 +9,7 @@ use Rattle.stream.specs.Step.{beside_of}
 use Rattle.snapshot.specs.Command.{Command, on_stream, save, load, save_reply, Loading, refusing, loading, loads}
 
 abbrev pub on_load : Loading → Ledger → LedgerStep
-on_load (refusing n) l = refuses l n
+on_load (refusing r) l = refuses l r
 on_load (loading k) l = answers done k
 
 abbrev pub ledger_turn : Beside → Command → Ledger → LedgerStep

@@ -1,16 +1,17 @@
 -- The promises of save and load, and so of every command, over what is told of an answer. Assumes nothing.
 use Rattle.std.specs.Prelude.{◌≡◌, Bool, true, false, List, ℕ}
+use Rattle.refusal.specs.declared.Refusal.{Refusal}
 use Rattle.stream.specs.Command as Stream
 use Rattle.stream.specs.Promise.{Lent, held_by, slots_of, Follows, Becomes, SetsUp}
 use Rattle.snapshot.specs.Command.{Command, on_stream, save, load, save_by, loaded, Loading, refusing, loading, loads, is_set_up}
 
 module _ {T : Type 0} (tell : Stream.Answer → T) where
   -- a refusal of a command that is accepted on whatever bytes: every byte is kept
-  abbrev pub Refuses : ℕ → Lent → T → Lent → Type 0
-  Refuses n i t j = (t ≡ tell (Stream.refused n)) × (j ≡ i)
+  abbrev pub Refuses : Refusal → Lent → T → Lent → Type 0
+  Refuses r i t j = (t ≡ tell (Stream.refused r)) × (j ≡ i)
 
   abbrev pub LoadsBy : Loading → Lent → T → Lent → Type 0
-  LoadsBy (refusing n) i t j = Refuses n i t j
+  LoadsBy (refusing r) i t j = Refuses r i t j
   LoadsBy (loading l) i t j = Becomes tell (loaded l) i t j
 
   abbrev pub Loads : List ℕ → Lent → T → Lent → Type 0

@@ -9,7 +9,7 @@ use std::io;
 use std::io::{Read, Write};
 
 fn show_line<W: Write>(out: &mut W, s: &[u8]) -> io::Result<()> {
-    if s.len() == 0 {
+    if s.is_empty() {
         show::text(out, b"-")?;
     } else {
         show::hex(out, s, b"")?;
@@ -19,13 +19,11 @@ fn show_line<W: Write>(out: &mut W, s: &[u8]) -> io::Result<()> {
     show::text(out, b"\n")
 }
 
-// The length that comes next, or 65,535 at the end.
-fn next_length<R: Read>(input: &mut R) -> usize {
+// The length that comes next, if one does.
+fn next_length<R: Read>(input: &mut R) -> Option<usize> {
     let mut head = [0u8; 2];
-    if input.read_exact(&mut head).is_err() {
-        return 65535;
-    }
-    octets::wide(head[0]) as usize + 256 * (octets::wide(head[1]) as usize)
+    input.read_exact(&mut head).ok()?;
+    Some(usize::from(u16::from_le_bytes(head)))
 }
 
 // So many bytes.
@@ -37,7 +35,9 @@ fn read_bytes<R: Read>(input: &mut R, d: &mut [u8], n: usize) -> bool
 
 // The next string, if there is one of at most 4,095 bytes.
 fn next_line<R: Read, W: Write>(input: &mut R, out: &mut W) -> io::Result<bool> {
-    let n = next_length(input);
+    let Some(n) = next_length(input) else {
+        return Ok(false);
+    };
     if 4095 < n {
         return Ok(false);
     }
@@ -53,12 +53,10 @@ fn next_line<R: Read, W: Write>(input: &mut R, out: &mut W) -> io::Result<bool> 
 fn main(rt: HostRuntime) -> io::Result<()> {
     let mut input = rt.stdin();
     let mut out = io::writer(&rt);
-    let mut left: u32 = 100000;
-    while 0 < left {
+    for _ in 0..100000 {
         if !next_line(&mut input, &mut out)? {
             return Ok(());
         }
-        left -= 1;
     }
     Ok(())
 }

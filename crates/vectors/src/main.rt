@@ -43,7 +43,7 @@ struct End {
     count: u64,
 }
 
-// The elements of strings, each given as a length byte and its bytes.
+// The elements of strings, each given as a length byte and its bytes. A walk: how far a step goes is read.
 fn push_all(d: &mut [u8], strings: &[u8]) -> End
     requires { 6 < length d.old }
     ensures { result.at < length d.new }

@@ -1,20 +1,20 @@
 -- Batch reading among calls (02, CR 1): an accepted batch is so many single reads, which leave the same bytes. Assumes nothing.
 use mathlib.Core.Path.{◌≡◌, refl, sym, ap, ap₂, ◌∙◌, subst}
-use mathlib.Core.Bool.{Bool, true, false}
+use mathlib.Core.Bool.{true, false}
 use mathlib.Core.List.{List, [], ◌∷◌, ◌++◌, map}
-use mathlib.Core.Option
-use mathlib.Core.Option.{Option, some, none}
-use Prim.Native.Nat.{ℕ, suc, ◌-◌, ◌*◌, min}
+use Rattle.std.proofs.Common.{Option, Some, None, option_map}
+use Prim.Native.Nat.{ℕ, ◌-◌, ◌*◌, min}
 use native.Mathlib.Omega.{arith}
 use lib.Dec.{leb}
 use lib.ListN.{length, drop, replicate}
-use Rattle.octets.specs.Pick.{pick}
-use Rattle.octets.specs.Maybe.{or_else}
+use Rattle.refusal.specs.declared.Refusal.{Refusal}
+use Rattle.refusal.proofs.Laws.{number_some}
+use Rattle.refusal.specs.declared.Refusal.TheVariants.{MostConsumers, MostPending}
 use Rattle.octets.proofs.Laws.{pick_by, pick_same, some_is}
 use Rattle.id.specs.declared.Id.{Id}
 use Rattle.node.specs.Message.{Message}
 use Rattle.node.specs.Step.{first_after}
-use Rattle.groups.specs.Group.{Group, is_name, most_pending}
+use Rattle.groups.specs.Group.{Group, most_pending}
 use Rattle.groups.specs.Step.{lacks_consumer, find_group}
 use Rattle.state.specs.Layout.{index_area}
 use Rattle.stream.specs.Ledger.{Ledger, is_ledger}
@@ -34,41 +34,28 @@ use Rattle.wallathi.proofs.Joins.{cut_same, answers_at, run_instead, answers_ins
 use Rattle.wallathi.proofs.Saves.{put_first}
 use Rattle.wallathi.proofs.OneImage.{one_image}
 
--- of a batch, 0 is no refusal's number
+-- 0 is no refusal's number
 abbrev Numbered : Answer → Type 0
 Numbered a = code_of a ≡ 0 → is_refusal a ≡ false
-
-above_zero : (k : ℕ) → some (suc k) ≡ some 0 → ⊥
-above_zero k e = let z : suc k ≡ 0 = some_is e in omega arith
 
 abbrev OfGroup : GroupStep → Type 0
 OfGroup s = Numbered s.answer
 
 module _ (name consumer : List ℕ) (time n room : ℕ) where
-  not_zero : request_refusal name (group_read_many consumer time n room) ≡ some 0 → ⊥
-  not_zero e = by (is_name name) (is_name consumer) (leb n 256) (leb (16 * n) room) e
-    where
-      by : (p q s t : Bool) → or_else {A = ℕ} (pick p none (some 3)) (or_else (pick q none (some 3)) (pick s (pick t none (some 8)) (some 3))) ≡ some 0 → ⊥
-      by false q s t e = above_zero 2 e
-      by true false s t e = above_zero 2 e
-      by true true false t e = above_zero 2 e
-      by true true true false e = above_zero 7 e
-      by true true true true e = let z : ◌≡◌ {A = ℕ} 0 1 = cc in omega arith
-
   numbered : (b : Beside) (l : Ledger) → Numbered (ledger_step b (in_group name (group_read_many consumer time n room)) l).answer
   numbered b l = by (request_refusal name (group_read_many consumer time n room)) refl (find_group name l.groups)
     where
       single : (g : Group) (o : Option Message) → OfGroup (delivers consumer time o g)
-      single g none = λ _. refl
-      single g (some x) =
-          pick_by OfGroup (lacks_consumer consumer g) (leaves (refused 12) g) _ (λ _ z. absurd (omega arith))
-          (λ _. pick_by OfGroup (leb most_pending (length g.pending)) (leaves (refused 13) g) _ (λ _ z. absurd (omega arith)) (λ _ _. refl))
+      single g None = λ _. refl
+      single g (Some x) =
+          pick_by OfGroup (lacks_consumer consumer g) (leaves (refused MostConsumers) g) _ (λ _ z. absurd (omega arith))
+          (λ _. pick_by OfGroup (leb most_pending (length g.pending)) (leaves (refused MostPending) g) _ (λ _ z. absurd (omega arith)) (λ _ _. refl))
 
-      by : (o : Option ℕ) → request_refusal name (group_read_many consumer time n room) ≡ o → (f : Option Group)
+      by : (o : Option Refusal) → request_refusal name (group_read_many consumer time n room) ≡ o → (f : Option Group)
           → Numbered (ruled o l (in_ledger l (group_read_many consumer time n room) f)).answer
-      by (some k) r f = λ z. absurd (not_zero (r ∙ ap some z))
-      by none r none = λ z. absurd (omega arith)
-      by none r (some g) =
+      by (Some k) r f = λ z. absurd (let h = number_some k in omega arith)
+      by None r None = λ z. absurd (omega arith)
+      by None r (Some g) =
           many_by OfGroup consumer time n room l.messages g (single g (first_after g.delivered l.messages)) (λ _ _. refl)
 
 -- a command on a group leaves the nodes
@@ -107,7 +94,7 @@ module _ (name consumer : List ℕ) (time : ℕ) where
       }
 
   -- they leave the index's record
-  index_stays : (olds : List Id) {i k : Lent} {ss : List Seen} (m : Model) → held_by i ≡ some m → Made (single_reads name consumer time olds) i ss k
+  index_stays : (olds : List Id) {i k : Lent} {ss : List Seen} (m : Model) → held_by i ≡ Some m → Made (single_reads name consumer time olds) i ss k
       → index_area k.state ≡ index_area i.state
   index_stays [] m e made_none = refl
   index_stays (o ∷ olds) m e (made_more {i = i} {j = j} {s = s} x r) =
@@ -121,7 +108,7 @@ module _ (slots : ℕ) (h : Kept) (name consumer : List ℕ) (time n len : ℕ) 
   record Batch : Type 0 where
     group : Group
     ids : List Id
-    found : find_group name h.ledger.groups ≡ some group
+    found : find_group name h.ledger.groups ≡ Some group
     smallest : length ids ≡ min n (min (length (ids_after group.delivered h.ledger.messages)) (most_pending - length group.pending))
     sees : (plain_call slots (read_many name consumer time n len out) h).answer ≡ seen 0 (16 * length ids ∷ []) (ids_bytes ids ++ drop (16 * length ids) out)
     singles : (olds : List Id) → length olds ≡ length ids → answers (plain_call slots) (single_reads name consumer time olds) h ≡ seen_ids ids
@@ -147,7 +134,7 @@ module _ (slots : ℕ) (h : Kept) (name consumer : List ℕ) (time n len : ℕ) 
       }
 
 -- on a store that holds the model m: what single reads leave is, where there are none, the same store, else bytes that hold one model
-module _ (i j : Lent) (s : Seen) (name consumer : List ℕ) (time n len : ℕ) (out : List ℕ) (m : Model) (h : held_by i ≡ some m)
+module _ (i j : Lent) (s : Seen) (name consumer : List ℕ) (time n len : ℕ) (out : List ℕ) (m : Model) (h : held_by i ≡ Some m)
     (d : Meets (read_many name consumer time n len out) i s j) where
   shows : Shows (tell_to (len ∷ []) out) (step (slots_of i) (in_group name (group_read_many consumer time n (length out))) m) m i s j
   shows = subst (λ (o : Option Model). FollowsBy (tell_to (len ∷ []) out) (in_group name (group_read_many consumer time n (length out))) o i s j) h d.does
@@ -177,17 +164,17 @@ module _ (i j : Lent) (s : Seen) (name consumer : List ℕ) (time n len : ℕ) (
         sees = p.sees ∙ x.sees;
         singles = λ olds ss k q r.
             let w = ran r st in
-            let e : held_by k ≡ held_by j = w.stands.holds ∙ ap (λ (y : Kept). some (model_by y)) (x.left olds q) ∙ sym p.stands.holds in
+            let e : held_by k ≡ held_by j = w.stands.holds ∙ ap (λ (y : Kept). Some (model_by y)) (x.left olds q) ∙ sym p.stands.holds in
             (w.sees ∙ x.singles olds q, same_left olds r e w.size_kept w.tail_kept (index_stays name consumer time olds m h r));
       }
 
 pub batch_exact : (i j : Lent) (s : Seen) (name consumer : List ℕ) (time n len : ℕ) (out : List ℕ) (l : Ledger)
-    → Meets (read_many name consumer time n len out) i s j → ledger_by i ≡ some l → s.code ≡ 0 → ReadsMany name consumer time n out l i s j
+    → Meets (read_many name consumer time n len out) i s j → ledger_by i ≡ Some l → s.code ≡ 0 → ReadsMany name consumer time n out l i s j
 batch_exact i j s name consumer time n len out l d e z = by (held_by i) refl e
   where
-    by : (o : Option Model) → held_by i ≡ o → Option.map ledger_of o ≡ some l → ReadsMany name consumer time n out l i s j
-    by none h e = absurd (let z : ◌≡◌ {A = ℕ} 0 1 = cc in omega arith)
-    by (some m) h e = subst (λ (l : Ledger). ReadsMany name consumer time n out l i s j) (some_is e) (on_model i j s name consumer time n len out m h d z)
+    by : (o : Option Model) → held_by i ≡ o → option_map ledger_of o ≡ Some l → ReadsMany name consumer time n out l i s j
+    by None h e = absurd (let z : ◌≡◌ {A = ℕ} 0 1 = cc in omega arith)
+    by (Some m) h e = subst (λ (l : Ledger). ReadsMany name consumer time n out l i s j) (some_is e) (on_model i j s name consumer time n len out m h d z)
 
 -- a batch after the calls cs, and single reads in its place
 module _ (slots : ℕ) (cs ds : List Call) (name consumer : List ℕ) (time n len : ℕ) (out : List ℕ) (x : Seen) (olds : List Id)
@@ -239,11 +226,11 @@ batch_in_list cs ds i j k l ss ts i₀ j₀ s t x name consumer time n len out o
     let u = whole i₀ s d e m in
     let y = whole j₀ t f g o in
     let r = there slots cs (read_many name consumer time n len out) ds p u.sees (ap length (sym w.sees) ∙ made_length a.made) in
-    let k₀ : ledger_of (model_by (kept_after slots cs)) ≡ (kept_after slots cs).ledger = some_is (sym (ap (Option.map ledger_of) w.holds) ∙ w.ledger_is) in
+    let k₀ : ledger_of (model_by (kept_after slots cs)) ≡ (kept_after slots cs).ledger = some_is (sym (ap (option_map ledger_of) w.holds) ∙ w.ledger_is) in
     let b = batched slots (kept_after slots cs) name consumer time n len out (ap is_ledger (sym k₀) ∙ model_ledger slots (model_by (kept_after slots cs)) w.rules) (ap (λ (x : Seen). x.code) (sym r.here_is) ∙ z) in
     let cs' : List Call = cs ++ (single_reads name consumer time olds ++ ds) in (
       subst (InPlace out x p.first p.later) (sym (y.sees ∙ ap (λ (n : ℕ). seen_of n cs') (sym q)))
           (in_place slots cs ds name consumer time n len out x olds b r.here_is v r.first_is r.later_is),
-      u.holds ∙ ap (λ (h : Kept). some (model_by h)) (same_kept slots cs ds name consumer time n len out x olds b r.here_is v)
-          ∙ ap (λ (n : ℕ). some (model_by (kept_after n cs'))) q ∙ sym y.holds,
+      u.holds ∙ ap (λ (h : Kept). Some (model_by h)) (same_kept slots cs ds name consumer time n len out x olds b r.here_is v)
+          ∙ ap (λ (n : ℕ). Some (model_by (kept_after n cs'))) q ∙ sym y.holds,
     )

@@ -2,7 +2,7 @@
 use mathlib.Core.Path.{◌≡◌, refl, sym, ap, ◌∙◌, subst}
 use mathlib.Core.Bool.{Bool, true, false}
 use mathlib.Core.List.{List, [], ◌∷◌}
-use mathlib.Core.Option.{some}
+use Rattle.std.proofs.Common.{Some}
 use Prim.Native.Nat.{ℕ, zero, suc, ◌*◌, ◌/◌, ◌^◌, ◌≤◌, ◌<◌}
 use native.Mathlib.Nat.{min-le_right}
 use native.Mathlib.Omega.{arith}
@@ -132,7 +132,7 @@ index_map slots i ns l h r = is_map_lem (index_of ns) (omega (arith, index_lengt
 -- groups alone change
 pub record Built (i : Lent) (m : Model) : Type 0 where
   pub lent_as : Lent
-  pub holds : held_by lent_as ≡ some m
+  pub holds : held_by lent_as ≡ Some m
   pub size_kept : length lent_as.store ≡ length i.store
   pub tail_kept : tail_of lent_as ≡ tail_of i
   pub index_is : index_area lent_as.state ≡ index_bytes (index_of m.nodes)
@@ -167,12 +167,12 @@ built i b m e =
 -- the groups alone: the state with another groups area
 pub record Regrouped (i : Lent) (m : Model) (gs : List Group) : Type 0 where
   pub lent_as : Lent
-  pub holds : held_by lent_as ≡ some (regrouped m gs)
+  pub holds : held_by lent_as ≡ Some (regrouped m gs)
   pub store_kept : lent_as.store ≡ i.store
   pub index_kept : index_area lent_as.state ≡ index_area i.state
   pub bytes : AreBytes lent_as
 
-pub regroup : (i : Lent) → AreBytes i → (m : Model) → held_by i ≡ some m → (gs : List Group) → is_groups m.last gs ≡ true → Regrouped i m gs
+pub regroup : (i : Lent) → AreBytes i → (m : Model) → held_by i ≡ Some m → (gs : List Group) → is_groups m.last gs ≡ true → Regrouped i m gs
 unfolding groups_area
 regroup i b m e gs h =
     let l = image_laid i.store i.state m b.store b.state e in

@@ -1,17 +1,17 @@
 -- A written answer fits the command's output, and only a command with an output is answered so. Assumes nothing.
 use mathlib.Core.Path.{◌≡◌, refl}
 use mathlib.Core.List.{List}
-use mathlib.Core.Option.{Option, some, none}
 use Prim.Native.Nat.{ℕ, ◌*◌, ◌≤◌}
 use native.Mathlib.Omega.{arith}
 use lib.Dec.{leb, eqb}
 use lib.ListN.{length}
 use borrow.Author.Tests.{leb-true}
-use Rattle.octets.specs.Maybe.{is_none}
+use Rattle.std.proofs.Common.{is_none, Option, Some, None}
+use Rattle.refusal.specs.declared.Refusal.{Refusal}
+use Rattle.refusal.specs.declared.Refusal.TheVariants.{BadArgument, LongMessage, Full, ShortOutput, GroupExists, MostGroups, MostConsumers, MostPending, MostNodes}
 use Rattle.octets.proofs.Laws.{pick_by}
+use Rattle.id.specs.declared.Id.{Id}
 use Rattle.id.specs.Id.{below}
-use Rattle.id.specs.declared.Following.{Following}
-use Rattle.id.specs.declared.Following.TheVariants.{Next, Exhausted}
 use Rattle.slip.specs.Slip.{slip, parse_slip}
 use Rattle.node.specs.Message.{Pair, Message, message}
 use Rattle.node.specs.Step.{fits_alone, find_message, first_from, first_after, value_of}
@@ -81,52 +81,52 @@ abbrev Fit : LedgerStep → Type 0
 Fit s = Fits 0 s.answer
 
 writes_fit : (room : ℕ) (bs : List ℕ) → Fits room (writes room bs)
-writes_fit room bs = pick_by (Fits room) (leb (length bs) room) (written bs) (refused 8) (λ e. leb-true (length bs) room e) (λ e. tt)
+writes_fit room bs = pick_by (Fits room) (leb (length bs) room) (written bs) (refused ShortOutput) (λ e. leb-true (length bs) room e) (λ e. tt)
 
 add_fits : (b : Beside) (m : Message) (l : Ledger) → Fit (add_as b m l)
 unfolding add_as
 add_fits b m l =
-    pick_by Fit (fits_alone m) _ (refuses l 6) (λ e. pick_by Fit b.full (refuses l 7) _ (λ f. tt) (λ f. tt)) (λ e. tt)
+    pick_by Fit (fits_alone m) _ (refuses l LongMessage) (λ e. pick_by Fit b.full (refuses l Full) _ (λ f. tt) (λ f. tt)) (λ e. tt)
 
 query_fits : (q : Stream.Query) (l : Ledger) → Fits (room_in q) (reply_to q l)
 query_fits (Stream.next i) l = by (first_from i l.messages)
   where
     by : (o : Option Message) → Fits 0 (id_reply o)
-    by none = tt
-    by (some m) = tt
+    by None = tt
+    by (Some m) = tt
 query_fits (Stream.read i room) l = by (find_message i l.messages)
   where
     by : (o : Option Message) → Fits room (read_reply room o)
-    by none = tt
-    by (some m) = writes_fit room (slip m.pairs)
-query_fits (Stream.field i name room) l = pick_by (Fits room) (leb (length name) 1000) _ (refused 3) (λ e. by (find_message i l.messages)) (λ e. tt)
+    by None = tt
+    by (Some m) = writes_fit room (slip m.pairs)
+query_fits (Stream.field i name room) l = pick_by (Fits room) (leb (length name) 1000) _ (refused BadArgument) (λ e. by (find_message i l.messages)) (λ e. tt)
   where
     value : (o : Option (List ℕ)) → Fits room (value_reply room o)
-    value none = tt
-    value (some v) = writes_fit room v
+    value None = tt
+    value (Some v) = writes_fit room v
 
     by : (o : Option Message) → Fits room (field_reply room name o)
-    by none = tt
-    by (some m) = value (value_of name m.pairs)
+    by None = tt
+    by (Some m) = value (value_of name m.pairs)
 query_fits (Stream.report name first last) l =
     let r = report_on name no_messages (between first last l.messages) in
-    pick_by (Fits 0) (leb (length name) 1000) (report_reply r) (refused 3) (λ e. by r.lacking r.other r.integers) (λ e. tt)
+    pick_by (Fits 0) (leb (length name) 1000) (report_reply r) (refused BadArgument) (λ e. by r.lacking r.other r.integers) (λ e. tt)
   where
     by : (l o : ℕ) (x : Option Integers) → Fits 0 (report_by l o x)
-    by l o none = tt
-    by l o (some x) = tt
+    by l o None = tt
+    by l o (Some x) = tt
 query_fits (Stream.range_reply first last room) l = writes_fit room (range_bytes (between first last l.messages))
 
 abbrev FitsGroup : ℕ → GroupStep → Type 0
 FitsGroup room s = Fits room s.answer
 
 read_fits : (room : ℕ) (consumer : List ℕ) (time : ℕ) (o : Option Message) (g : Group) → FitsGroup room (delivers consumer time o g)
-read_fits room consumer time none g = tt
-read_fits room consumer time (some m) g =
-    pick_by (FitsGroup room) (Groups.lacks_consumer consumer g) (leaves (refused 12) g) _ (λ e. tt)
-    (λ e. pick_by (FitsGroup room) (leb most_pending (length g.pending)) (leaves (refused 13) g) _ (λ f. tt) (λ f. tt))
+read_fits room consumer time None g = tt
+read_fits room consumer time (Some m) g =
+    pick_by (FitsGroup room) (Groups.lacks_consumer consumer g) (leaves (refused MostConsumers) g) _ (λ e. tt)
+    (λ e. pick_by (FitsGroup room) (leb most_pending (length g.pending)) (leaves (refused MostPending) g) _ (λ f. tt) (λ f. tt))
 
-group_fits : (c : Stream.GroupCommand) (ms : List Message) (g : Group) → argument_refusal c ≡ none → FitsGroup (room_in_group c) (on_group c ms g)
+group_fits : (c : Stream.GroupCommand) (ms : List Message) (g : Group) → argument_refusal c ≡ None → FitsGroup (room_in_group c) (on_group c ms g)
 group_fits (Stream.group_read consumer time) ms g r = read_fits 0 consumer time (first_after g.delivered ms) g
 group_fits (Stream.group_read_many consumer time n room) ms g r =
     let h : 16 * n ≤ room = (batch_room n room (second_kept (name_refusal consumer) (batch_refusal n room) r)).1 in
@@ -135,25 +135,25 @@ group_fits (Stream.group_read_many consumer time n room) ms g r =
 group_fits (Stream.acknowledge i) ms g r = by (Groups.find_pending i g.pending)
   where
     by : (o : Option Pending) → Fits 0 (acknowledges i o g).answer
-    by none = tt
-    by (some p) = tt
+    by None = tt
+    by (Some p) = tt
 group_fits (Stream.claim consumer least i time) ms g r = by (Groups.find_pending i g.pending)
   where
     by : (o : Option Pending) → FitsGroup 0 (claims consumer least time o g)
-    by none = tt
-    by (some p) =
+    by None = tt
+    by (Some p) =
         pick_by (FitsGroup 0) (leb least (Groups.idle time p.time)) _ (leaves not_moved g)
-        (λ e. pick_by (FitsGroup 0) (Groups.lacks_consumer consumer g) (leaves (refused 12) g) _ (λ f. tt) (λ f. tt)) (λ e. tt)
+        (λ e. pick_by (FitsGroup 0) (Groups.lacks_consumer consumer g) (leaves (refused MostConsumers) g) _ (λ f. tt) (λ f. tt)) (λ e. tt)
 group_fits (Stream.next_pending consumer i) ms g r = by (Groups.next_pending consumer i g)
   where
     by : (o : Option Pending) → Fits 0 (pending_reply ms o)
-    by none = tt
-    by (some p) = tt
+    by None = tt
+    by (Some p) = tt
 group_fits (Stream.drop_consumer consumer) ms g r = tt
 
-ruled_fits : (room : ℕ) (o : Option ℕ) (l : Ledger) (s : LedgerStep) → (o ≡ none → Fits room s.answer) → Fits room (ruled o l s).answer
-ruled_fits room none l s h = h refl
-ruled_fits room (some n) l s h = tt
+ruled_fits : (room : ℕ) (o : Option Refusal) (l : Ledger) (s : LedgerStep) → (o ≡ None → Fits room s.answer) → Fits room (ruled o l s).answer
+ruled_fits room None l s h = h refl
+ruled_fits room (Some n) l s h = tt
 
 pub stream_fits : (c : Stream.Command) (b : Beside) (l : Ledger) → Fits (room_by c) (ledger_step b c l).answer
 unfolding on_set_up on_trim on_create
@@ -161,38 +161,38 @@ stream_fits Stream.set_up b l = pick_by Fit (eqb b.slots 0) _ _ (λ e. tt) (λ e
 stream_fits (Stream.add i s) b l = by (parse_slip s)
   where
     by : (o : Option (List Pair)) → Fit (on_add b i o l)
-    by none = tt
-    by (some ps) = pick_by Fit (below l.last i) (add_as b (message i ps) l) _ (λ e. add_fits b (message i ps) l) (λ e. tt)
+    by None = tt
+    by (Some ps) = pick_by Fit (below l.last i) (add_as b (message i ps) l) _ (λ e. add_fits b (message i ps) l) (λ e. tt)
 stream_fits (Stream.add_by_clock time s) b l = by (parse_slip s)
   where
-    next : (f : Following) (ps : List Pair) → Fit (add_following b f ps l)
-    next Exhausted ps = tt
-    next (Next i) ps = add_fits b (message i ps) l
+    next : (f : Option Id) (ps : List Pair) → Fit (add_following b f ps l)
+    next None ps = tt
+    next (Some i) ps = add_fits b (message i ps) l
 
     by : (o : Option (List Pair)) → Fit (on_add_by_clock b time o l)
-    by none = tt
-    by (some ps) = next (clock_id time l.last) ps
+    by None = tt
+    by (Some ps) = next (clock_id time l.last) ps
 stream_fits (Stream.delete i) b l = by (find_message i l.messages)
   where
     by : (o : Option Message) → Fit (on_delete i o l)
-    by none = tt
-    by (some m) = tt
+    by None = tt
+    by (Some m) = tt
 stream_fits (Stream.trim k) b l = tt
-stream_fits (Stream.create_group name start) b l = ruled_fits 0 (name_refusal name) l (on_create name start l) (λ _. pick_by Fit (is_none (Groups.find_group name l.groups)) _ (refuses l 10) (λ e. pick_by Fit (leb most_groups (length l.groups)) (refuses l 11) _ (λ f. tt) (λ f. tt)) (λ e. tt))
+stream_fits (Stream.create_group name start) b l = ruled_fits 0 (name_refusal name) l (on_create name start l) (λ _. pick_by Fit (is_none (Groups.find_group name l.groups)) _ (refuses l GroupExists) (λ e. pick_by Fit (leb most_groups (length l.groups)) (refuses l MostGroups) _ (λ f. tt) (λ f. tt)) (λ e. tt))
 stream_fits (Stream.destroy_group name) b l = ruled_fits 0 (name_refusal name) l (on_destroy name (Groups.find_group name l.groups) l) (λ _. by (Groups.find_group name l.groups))
   where
     by : (o : Option Group) → Fit (on_destroy name o l)
-    by none = tt
-    by (some g) = tt
+    by None = tt
+    by (Some g) = tt
 stream_fits (Stream.asks q) b l = query_fits q l
 stream_fits (Stream.in_group name c) b l =
     ruled_fits (room_in_group c) (request_refusal name c) l (in_ledger l c (Groups.find_group name l.groups))
     (λ r. by (Groups.find_group name l.groups) (second_kept (name_refusal name) (argument_refusal c) r))
   where
-    by : (o : Option Group) → argument_refusal c ≡ none → Fits (room_in_group c) (in_ledger l c o).answer
-    by none r = tt
-    by (some g) r = group_fits c l.messages g r
+    by : (o : Option Group) → argument_refusal c ≡ None → Fits (room_in_group c) (in_ledger l c o).answer
+    by None r = tt
+    by (Some g) r = group_fits c l.messages g r
 
 pub save_fits : (room : ℕ) (l : Ledger) → Fits room (save_reply room l)
 unfolding save_reply
-save_fits room l = pick_by (Fits room) (leb (length (fresh_cut l.messages)) 64) _ (refused 15) (λ e. writes_fit room (snapshot_of l)) (λ e. tt)
+save_fits room l = pick_by (Fits room) (leb (length (fresh_cut l.messages)) 64) _ (refused MostNodes) (λ e. writes_fit room (snapshot_of l)) (λ e. tt)

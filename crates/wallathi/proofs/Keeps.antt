@@ -3,19 +3,18 @@
 use mathlib.Core.Path.{◌≡◌, refl, sym, ap, ◌∙◌, subst}
 use mathlib.Core.Bool.{Bool, true, false}
 use mathlib.Core.List.{List, [], ◌∷◌}
-use mathlib.Core.Option.{Option, some, none}
 use Prim.Native.Nat.{ℕ, ◌-◌, ◌^◌, ◌≤◌, ◌<◌}
 use native.Mathlib.Omega.{arith}
 use lib.Dec.{leb}
 use lib.ListN.{length}
 use borrow.Author.Tests.{leb-true, leb-false}
-use Rattle.octets.specs.Maybe.{is_none}
+use Rattle.std.proofs.Common.{is_none, Option, Some, None}
+use Rattle.refusal.specs.declared.Refusal.{Refusal}
+use Rattle.refusal.specs.declared.Refusal.TheVariants.{BadArgument, LowId, NoIdLeft, LongMessage, Full, NoGroup, GroupExists, MostGroups, MostConsumers, MostPending}
 use Rattle.octets.specs.Bytes.{Bytes}
 use Rattle.octets.specs.Compare.{same}
 use Rattle.octets.proofs.Laws.{never, some_is, same_refl, same_true, pick_by}
 use Rattle.id.specs.declared.Id.{Id}
-use Rattle.id.specs.declared.Following.{Following}
-use Rattle.id.specs.declared.Following.TheVariants.{Next, Exhausted}
 use Rattle.id.specs.Id.{Fits64, least, below}
 use Rattle.id.proofs.Laws.{id_fits}
 use Rattle.slip.specs.Slip.{parse_slip}
@@ -69,8 +68,8 @@ module _ (slots : ℕ) (m : Model) (e : is_model slots m ≡ true) where
   adds c x a = by (fits_alone x) refl (lacks_slot slots m.nodes x) refl
     where
       by : (s : Bool) → fits_alone x ≡ s → (t : Bool) → lacks_slot slots m.nodes x ≡ t → Outcome slots (step slots c m) m
-      by false f t l = same_model (step slots c m) (refused 6) (add_large slots c m x a f)
-      by true f true l = same_model (step slots c m) (refused 7) (add_full slots c m x a f l)
+      by false f t l = same_model (step slots c m) (refused LongMessage) (add_large slots c m x a f)
+      by true f true l = same_model (step slots c m) (refused Full) (add_full slots c m x a f l)
       by true f false l =
           let q = add_goes slots c m x a f l in
           unfold add_message in
@@ -80,37 +79,37 @@ module _ (slots : ℕ) (m : Model) (e : is_model slots m ≡ true) where
   add_outcome : (i : Id) (s : List ℕ) → Fits64 i → Bytes s → Outcome slots (step slots (Stream.add i s) m) m
   add_outcome i s f b = by (parse_slip s) refl
     where
-      low : (ps : List Pair) → parse_slip s ≡ some ps → (t : Bool) → below m.last i ≡ t → Outcome slots (step slots (Stream.add i s) m) m
+      low : (ps : List Pair) → parse_slip s ≡ Some ps → (t : Bool) → below m.last i ≡ t → Outcome slots (step slots (Stream.add i s) m) m
       low ps p true h = adds (Stream.add i s) (message i ps) (adds_by_id slots m i s ps b p f h)
-      low ps p false h = same_model (step slots (Stream.add i s) m) (refused 4) (add_low slots m s i ps p h)
+      low ps p false h = same_model (step slots (Stream.add i s) m) (refused LowId) (add_low slots m s i ps p h)
 
       by : (o : Option (List Pair)) → parse_slip s ≡ o → Outcome slots (step slots (Stream.add i s) m) m
-      by none p = same_model (step slots (Stream.add i s) m) (refused 3) (add_no_slip slots m s i p)
-      by (some ps) p = low ps p (below m.last i) refl
+      by None p = same_model (step slots (Stream.add i s) m) (refused BadArgument) (add_no_slip slots m s i p)
+      by (Some ps) p = low ps p (below m.last i) refl
 
   clock_outcome : (time : ℕ) (s : List ℕ) → time < 2 ^ 64 → Bytes s → Outcome slots (step slots (Stream.add_by_clock time s) m) m
   clock_outcome time s t b = by (parse_slip s) refl
     where
-      next : (ps : List Pair) → parse_slip s ≡ some ps → (n : Following) → clock_id time m.last ≡ n → Outcome slots (step slots (Stream.add_by_clock time s) m) m
-      next ps p Exhausted q = same_model (step slots (Stream.add_by_clock time s) m) (refused 5) (clock_exhausted slots m s time ps p q)
-      next ps p (Next i) q =
+      next : (ps : List Pair) → parse_slip s ≡ Some ps → (n : Option Id) → clock_id time m.last ≡ n → Outcome slots (step slots (Stream.add_by_clock time s) m) m
+      next ps p None q = same_model (step slots (Stream.add_by_clock time s) m) (refused NoIdLeft) (clock_exhausted slots m s time ps p q)
+      next ps p (Some i) q =
           let c = clock_above time m.last i q in
           let f : Fits64 i = c.1 t (id_fits m.last (model_rules slots m e).last_fits) in
           adds (Stream.add_by_clock time s) (message i ps)
           (record { step_is = rw (p, q); full_is = rw (p, q); cut_is = rw (p, q); above = c.0; is_message_lem = (adds_by_id slots m i s ps b p f c.0).is_message_lem })
 
       by : (o : Option (List Pair)) → parse_slip s ≡ o → Outcome slots (step slots (Stream.add_by_clock time s) m) m
-      by none p = same_model (step slots (Stream.add_by_clock time s) m) (refused 3) (clock_no_slip slots m s time p)
-      by (some ps) p = next ps p (clock_id time m.last) refl
+      by None p = same_model (step slots (Stream.add_by_clock time s) m) (refused BadArgument) (clock_no_slip slots m s time p)
+      by (Some ps) p = next ps p (clock_id time m.last) refl
 
   delete_outcome : (i : Id) → Outcome slots (step slots (Stream.delete i) m) m
   delete_outcome i = by (find_message i (messages_of m.nodes)) refl
     where
       by : (o : Option Message) → find_message i (messages_of m.nodes) ≡ o → Outcome slots (step slots (Stream.delete i) m) m
-      by none f =
+      by None f =
           same_model (step slots (Stream.delete i) m) (counted 0)
           (step_stays slots (Stream.delete i) m (counted 0) (rw f) (delete_none slots i m.nodes (model_rules slots m e).nodes_are f))
-      by (some x) f =
+      by (Some x) f =
           after_step (step slots (Stream.delete i) m) _
           (step_goes slots (Stream.delete i) m (counted 1) (with_messages (ledger_of m) (without_message i (messages_of m.nodes))) refl (rw f))
           (nodes_change (model_delete slots m e i) (delete_differs (renoded m (delete_message i m.nodes) m.last) m i x (messages_delete least i m.nodes (model_rules slots m e).rising) f))
@@ -145,9 +144,9 @@ module _ (slots : ℕ) (m : Model) (e : is_model slots m ≡ true) where
     where
       by : (r : Bool) → is_name name ≡ r → (s : Bool) → is_none (Groups.find_group name m.groups) ≡ s → (t : Bool) → leb most_groups (length m.groups) ≡ t
           → Outcome slots (step slots (Stream.create_group name start) m) m
-      by false r s p t q = same_model _ (refused 3) (step_refused slots (Stream.create_group name start) m 3 (rw r))
-      by true r false p t q = same_model _ (refused 10) (step_refused slots (Stream.create_group name start) m 10 (unfold on_create in rw (r, p)))
-      by true r true p true q = same_model _ (refused 11) (step_refused slots (Stream.create_group name start) m 11 (unfold on_create in rw (r, p, q)))
+      by false r s p t q = same_model _ (refused BadArgument) (step_refused slots (Stream.create_group name start) m BadArgument (rw r))
+      by true r false p t q = same_model _ (refused GroupExists) (step_refused slots (Stream.create_group name start) m GroupExists (unfold on_create in rw (r, p)))
+      by true r true p true q = same_model _ (refused MostGroups) (step_refused slots (Stream.create_group name start) m MostGroups (unfold on_create in rw (r, p, q)))
       by true r true p false q =
           regroups _ done (Groups.put_group (Groups.new_group name start) m.groups)
           (step_groups slots (Stream.create_group name start) m done (Groups.put_group (Groups.new_group name start) m.groups) (unfold on_create in rw (r, p, q)) refl)
@@ -157,14 +156,14 @@ module _ (slots : ℕ) (m : Model) (e : is_model slots m ≡ true) where
   destroy_outcome name = by (is_name name) refl (Groups.find_group name m.groups) refl
     where
       by : (r : Bool) → is_name name ≡ r → (o : Option Group) → Groups.find_group name m.groups ≡ o → Outcome slots (step slots (Stream.destroy_group name) m) m
-      by false r o p = same_model _ (refused 3) (step_refused slots (Stream.destroy_group name) m 3 (rw r))
-      by true r none p = same_model _ (refused 9) (step_refused slots (Stream.destroy_group name) m 9 (rw (r, p)))
-      by true r (some g) p =
+      by false r o p = same_model _ (refused BadArgument) (step_refused slots (Stream.destroy_group name) m BadArgument (rw r))
+      by true r None p = same_model _ (refused NoGroup) (step_refused slots (Stream.destroy_group name) m NoGroup (rw (r, p)))
+      by true r (Some g) p =
           regroups _ done (Groups.without_group name m.groups)
           (step_groups slots (Stream.destroy_group name) m done (Groups.without_group name m.groups) (rw (r, p)) refl) (destroy_groups m.last m.groups groups_are name)
 
   -- one group
-  module _ (name : List ℕ) (g : Group) (f : Groups.find_group name m.groups ≡ some g) where
+  module _ (name : List ℕ) (g : Group) (f : Groups.find_group name m.groups ≡ Some g) where
     abbrev Keeps : GroupStep → Type 0
     Keeps s = is_groups m.last (Groups.put_group s.after m.groups) ≡ true
 
@@ -174,19 +173,19 @@ module _ (slots : ℕ) (m : Model) (e : is_model slots m ≡ true) where
     messages_are : messages_above least m.last (messages_of m.nodes) ≡ true
     messages_are = (ledger_rules (ledger_of m) (model_ledger slots m e)).messages_are
 
-    read_keeps : (consumer : List ℕ) (time : ℕ) → time < 2 ^ 64 → name_refusal consumer ≡ none → Keeps (delivers consumer time (first_after g.delivered (messages_of m.nodes)) g)
+    read_keeps : (consumer : List ℕ) (time : ℕ) → time < 2 ^ 64 → name_refusal consumer ≡ None → Keeps (delivers consumer time (first_after g.delivered (messages_of m.nodes)) g)
     read_keeps consumer time t a = by (first_after g.delivered (messages_of m.nodes)) refl
       where
         by : (o : Option Message) → first_after g.delivered (messages_of m.nodes) ≡ o → Keeps (delivers consumer time o g)
-        by none p = keeps_same
-        by (some x) p =
+        by None p = keeps_same
+        by (Some x) p =
             let y = first_facts g.delivered least m.last (messages_of m.nodes) x messages_are p in
-            pick_by Keeps (Groups.lacks_consumer consumer g) (leaves (refused 12) g) _ (λ _. keeps_same)
-            (λ l. pick_by Keeps (leb most_pending (length g.pending)) (leaves (refused 13) g) _ (λ _. keeps_same)
+            pick_by Keeps (Groups.lacks_consumer consumer g) (leaves (refused MostConsumers) g) _ (λ _. keeps_same)
+            (λ l. pick_by Keeps (leb most_pending (length g.pending)) (leaves (refused MostPending) g) _ (λ _. keeps_same)
             (λ n. deliver_groups m.last m.groups groups_are name g f consumer time x.id (name_kept consumer a) t y.fits y.above y.up_to_lem l (leb-false most_pending (length g.pending) n)))
 
     -- a batch, where no consumer is lacking if it has an ID
-    many_keeps : (consumer : List ℕ) (time n : ℕ) → time < 2 ^ 64 → name_refusal consumer ≡ none
+    many_keeps : (consumer : List ℕ) (time n : ℕ) → time < 2 ^ 64 → name_refusal consumer ≡ None
         → (1 ≤ length (batch n (messages_of m.nodes) g) → Groups.lacks_consumer consumer g ≡ false)
         → is_groups m.last (Groups.put_group (Groups.deliver_all consumer time (batch n (messages_of m.nodes) g) g) m.groups) ≡ true
     many_keeps consumer time n t a k = by (batch n (messages_of m.nodes) g) refl
@@ -201,24 +200,24 @@ module _ (slots : ℕ) (m : Model) (e : is_model slots m ≡ true) where
             (ap (ids_up_to m.last) (sym p) ∙ batch_up_to n (messages_of m.nodes) g least m.last messages_are)
             (k (omega arith)) (omega arith)
 
-    group_keeps : (c : Stream.GroupCommand) → PassesGroup c → argument_refusal c ≡ none → Keeps (on_group c (messages_of m.nodes) g)
+    group_keeps : (c : Stream.GroupCommand) → PassesGroup c → argument_refusal c ≡ None → Keeps (on_group c (messages_of m.nodes) g)
     group_keeps (Stream.group_read consumer time) t a = read_keeps consumer time t a
     group_keeps (Stream.group_read_many consumer time n room) t a =
-        let k : name_refusal consumer ≡ none = first_kept (name_refusal consumer) (batch_refusal n room) a in
+        let k : name_refusal consumer ≡ None = first_kept (name_refusal consumer) (batch_refusal n room) a in
         many_by Keeps consumer time n room (messages_of m.nodes) g (read_keeps consumer time t k)
         (λ p. many_keeps consumer time n t k (consumer_known consumer time n (messages_of m.nodes) g p))
     group_keeps (Stream.acknowledge i) t a = by (Groups.find_pending i g.pending)
       where
         by : (o : Option Pending) → Keeps (acknowledges i o g)
-        by none = keeps_same
-        by (some p) = acknowledge_groups m.last m.groups groups_are name g f i
+        by None = keeps_same
+        by (Some p) = acknowledge_groups m.last m.groups groups_are name g f i
     group_keeps (Stream.claim consumer idle i time) t a = by (Groups.find_pending i g.pending) refl
       where
         by : (o : Option Pending) → Groups.find_pending i g.pending ≡ o → Keeps (claims consumer idle time o g)
-        by none p = keeps_same
-        by (some x) p =
+        by None p = keeps_same
+        by (Some x) p =
             pick_by Keeps (leb idle (Groups.idle time x.time)) _ (leaves Stream.not_moved g)
-            (λ _. pick_by Keeps (Groups.lacks_consumer consumer g) (leaves (refused 12) g) _ (λ _. keeps_same) (λ l. claim_groups m.last m.groups groups_are name g f consumer time i x (name_kept consumer a) t p l))
+            (λ _. pick_by Keeps (Groups.lacks_consumer consumer g) (leaves (refused MostConsumers) g) _ (λ _. keeps_same) (λ l. claim_groups m.last m.groups groups_are name g f consumer time i x (name_kept consumer a) t p l))
             (λ _. keeps_same)
     group_keeps (Stream.next_pending consumer i) t a = keeps_same
     group_keeps (Stream.drop_consumer consumer) t a = drop_groups m.last m.groups groups_are name g f consumer
@@ -226,10 +225,10 @@ module _ (slots : ℕ) (m : Model) (e : is_model slots m ≡ true) where
   group_outcome : (name : List ℕ) (c : Stream.GroupCommand) → PassesGroup c → Outcome slots (step slots (Stream.in_group name c) m) m
   group_outcome name c t = by (request_refusal name c) refl (Groups.find_group name m.groups) refl
     where
-      by : (r : Option ℕ) → request_refusal name c ≡ r → (o : Option Group) → Groups.find_group name m.groups ≡ o → Outcome slots (step slots (Stream.in_group name c) m) m
-      by (some n) r o p = same_model _ (refused n) (step_unruled slots name c m n r)
-      by none r none p = same_model _ (refused 9) (step_no_group slots name c m r p)
-      by none r (some g) p =
+      by : (r : Option Refusal) → request_refusal name c ≡ r → (o : Option Group) → Groups.find_group name m.groups ≡ o → Outcome slots (step slots (Stream.in_group name c) m) m
+      by (Some n) r o p = same_model _ (refused n) (step_unruled slots name c m n r)
+      by None r None p = same_model _ (refused NoGroup) (step_no_group slots name c m r p)
+      by None r (Some g) p =
           let s = on_group c (messages_of m.nodes) g in
           regroups _ s.answer (Groups.put_group s.after m.groups) (step_in_group slots name c m g s.after s.answer r p refl)
           (group_keeps name g p c t (second_kept (name_refusal name) (argument_refusal c) r))

@@ -1,10 +1,11 @@
 -- Loads in lists of calls, on whatever bytes: exactly when accepted, and what the store then holds. Assumes nothing.
 use mathlib.Core.Path.{◌≡◌, refl, sym, ap, ◌∙◌}
 use mathlib.Core.List.{List, []}
-use mathlib.Core.Option.{some, map}
+use Rattle.std.proofs.Common.{Some, option_map}
 use Prim.Native.Nat.{ℕ, ◌≤◌}
 use native.Mathlib.Omega.{arith}
 use lib.ListN.{length}
+use Rattle.refusal.specs.Number.{number_of}
 use Rattle.stream.specs.Ledger.{Ledger}
 use Rattle.stream.specs.Cut.{ledger_of, slots_in}
 use Rattle.stream.specs.Promise.{Lent, slots_of}
@@ -33,7 +34,7 @@ module _ (file : List ℕ) (i j : Lent) (s : Seen) where
   by_loading : (x : Loading) → loads (slots_of i) file ≡ x → LoadsBy (tell_to [] []) x i s j → Loads file i s j
   -- a refusal: no ledger fits, and every byte is kept
   by_loading (refusing n) e d =
-      let c : s.code ≡ n = ap (λ (x : Seen). x.code) d.0 in
+      let c : s.code ≡ number_of n = ap (λ (x : Seen). x.code) d.0 in
       let h = load_refused (slots_of i) file n e in
       record {
         accepts = λ l f. absurd (let x : loading l ≡ refusing n = sym (fits_loads file i l f) ∙ e in let z : ◌≡◌ {A = ℕ} 0 1 = cc in omega arith);
@@ -54,7 +55,7 @@ module _ (file : List ℕ) (i j : Lent) (s : Seen) where
             has_slot_lem = has_slot_lem (length i.store) x.has_slots;
             fits = x.fits;
           };
-          holds = ap (map ledger_of) d.holds ∙ ap some (fresh_ledger l);
+          holds = ap (option_map ledger_of) d.holds ∙ ap Some (fresh_ledger l);
           cut_is = d.holds;
           size_kept = d.size_kept;
           tail_kept = d.tail_kept;

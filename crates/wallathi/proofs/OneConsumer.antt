@@ -3,10 +3,9 @@ use mathlib.Core.Path.{◌≡◌, refl, sym, ap, ◌∙◌}
 use mathlib.Core.Bool.{Bool, true, false}
 use mathlib.Core.List.Memᴰ
 use mathlib.Core.List.{List, [], ◌∷◌, Memᴰ}
-use mathlib.Core.Option.{some}
 use mathlib.Core.Logic.{⊎_elim}
 use Rattle.octets.specs.Pick.{pick}
-use Rattle.octets.specs.Maybe.{is_none}
+use Rattle.std.proofs.Common.{is_none, Some}
 use Rattle.octets.proofs.Laws.{never}
 use Rattle.id.specs.declared.Id.{Id}
 use Rattle.id.specs.Id.{same_id}
@@ -33,12 +32,12 @@ unfolding find_pending
 member_found [] p m = absurd (Memᴰ.not-nil m)
 member_found (h ∷ ps) p m = by (same_id h.id p.id) refl (member_found ps p)
   where
-    by : (t : Bool) → same_id h.id p.id ≡ t → (Memᴰ p ps → is_none (find_pending p.id ps) ≡ false) → is_none (pick t (some h) (find_pending p.id ps)) ≡ false
+    by : (t : Bool) → same_id h.id p.id ≡ t → (Memᴰ p ps → is_none (find_pending p.id ps) ≡ false) → is_none (pick t (Some h) (find_pending p.id ps)) ≡ false
     by true e k = refl
     by false e k =
         ⊎_elim (λ (x : p ≡ h). absurd (never (same_id_refl h.id) (ap (λ (q : Pending). same_id h.id q.id) (sym x) ∙ e))) k (Memᴰ.cases_cons m)
 
-pub has_one_consumer : (i : Lent) (m : Model) (g : Group) (p : Pending) → held_by i ≡ some m → Memᴰ g m.groups → Memᴰ p g.pending → OneConsumer g p
+pub has_one_consumer : (i : Lent) (m : Model) (g : Group) (p : Pending) → held_by i ≡ Some m → Memᴰ g m.groups → Memᴰ p g.pending → OneConsumer g p
 has_one_consumer i m g p e x y =
     let r = sound m.last m.groups (model_rules (slots_of i) m (held_rules i m e)).groups_are in
     held_some (find_pending p.id g.pending) (member_found g.pending p y) λ q f.

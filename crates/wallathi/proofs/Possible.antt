@@ -3,12 +3,14 @@
 use mathlib.Core.Path.{◌≡◌, refl, sym, ap, ◌∙◌, subst}
 use mathlib.Core.Bool.{Bool, true, false}
 use mathlib.Core.List.{List, [], ◌∷◌}
-use mathlib.Core.Option.{Option, some, none}
+use Rattle.std.proofs.Common.{Option, Some, None}
 use Prim.Native.Nat.{ℕ, ◌≤◌}
 use native.Mathlib.Omega.{arith}
 use lib.Dec.{eqb}
 use lib.ListN.{length}
 use borrow.Author.Tests.{eqb-true}
+use Rattle.refusal.specs.declared.Refusal.{Refusal}
+use Rattle.refusal.specs.declared.Refusal.TheVariants.{NoSlot, Damaged}
 use Rattle.state.specs.Layout.{index_stays, index_written}
 use Rattle.stream.specs.Ledger.{Ledger}
 use Rattle.stream.specs.Cut.{Model, empty_model, messages_of, is_model, slots_in}
@@ -28,17 +30,17 @@ use Rattle.wallathi.proofs.Built.{built, regroup}
 use Rattle.wallathi.proofs.Keeps.{Outcome, stays, groups_change, nodes_change, outcome}
 
 -- what may be told and left, by a promise over both
-record Some (T : Type 0) (P : T → Lent → Type 0) : Type 0 where
+record Possibly (T : Type 0) (P : T → Lent → Type 0) : Type 0 where
   told : T
   left : Lent
   meets : P told left
   bytes : AreBytes left
 
 module _ {T : Type 0} (tell : Answer → T) (i : Lent) (b : AreBytes i) where
-  refuses : (n : ℕ) → Some T (λ t j. (t ≡ tell (refused n)) × (j ≡ i))
+  refuses : (n : Refusal) → Possibly T (λ t j. (t ≡ tell (refused n)) × (j ≡ i))
   refuses n = record { told = tell (refused n); left = i; meets = (refl, refl); bytes = b }
 
-  becomes : (m : Model) → is_model (slots_of i) m ≡ true → Some T (λ t j. Becomes tell m i t j)
+  becomes : (m : Model) → is_model (slots_of i) m ≡ true → Possibly T (λ t j. Becomes tell m i t j)
   becomes m e =
       let x = built i b m e in
       record {
@@ -48,15 +50,15 @@ module _ {T : Type 0} (tell : Answer → T) (i : Lent) (b : AreBytes i) where
         bytes = x.bytes;
       }
 
-  sets_up : (b : Bool) → Some T (λ t j. SetsUpBy tell b i t j)
-  sets_up true = refuses 1
+  sets_up : (b : Bool) → Possibly T (λ t j. SetsUpBy tell b i t j)
+  sets_up true = refuses NoSlot
   sets_up false = becomes empty_model (model_empty (slots_of i))
 
-  follows : (c : Stream.Command) → is_set_up c ≡ false → PassesStream c → (h : Option Model) → held_by i ≡ h → Some T (λ t j. FollowsBy tell c h i t j)
-  follows c z p none e = refuses 2
-  follows c z p (some m) e = by (outcome (slots_of i) m (held_rules i m e) c z p)
+  follows : (c : Stream.Command) → is_set_up c ≡ false → PassesStream c → (h : Option Model) → held_by i ≡ h → Possibly T (λ t j. FollowsBy tell c h i t j)
+  follows c z p None e = refuses Damaged
+  follows c z p (Some m) e = by (outcome (slots_of i) m (held_rules i m e) c z p)
     where
-      by : Outcome (slots_of i) (step (slots_of i) c m) m → Some T (λ t j. FollowsBy tell c (some m) i t j)
+      by : Outcome (slots_of i) (step (slots_of i) c m) m → Possibly T (λ t j. FollowsBy tell c (Some m) i t j)
       by (stays q) =
           record {
             told = tell (step (slots_of i) c m).answer;
@@ -64,7 +66,7 @@ module _ {T : Type 0} (tell : Answer → T) (i : Lent) (b : AreBytes i) where
             meets = record {
               told_is = refl;
               size_kept = refl;
-              holds = e ∙ ap some (sym q);
+              holds = e ∙ ap Some (sym q);
               tail_kept = refl;
               kept = λ _. refl;
               index_kept = λ _. refl;
@@ -80,7 +82,7 @@ module _ {T : Type 0} (tell : Answer → T) (i : Lent) (b : AreBytes i) where
             meets = record {
               told_is = refl;
               size_kept = ap length x.store_kept;
-              holds = x.holds ∙ ap some (sym q);
+              holds = x.holds ∙ ap Some (sym q);
               tail_kept = ap (λ (s : List ℕ). tail_of (lent s i.state)) x.store_kept;
               kept = λ y. absurd (d (sym (ap (λ (n : Model). n.groups) q) ∙ ap (λ (l : Ledger). l.groups) y));
               index_kept = λ _. x.index_kept;
@@ -105,15 +107,15 @@ module _ {T : Type 0} (tell : Answer → T) (i : Lent) (b : AreBytes i) where
             bytes = x.bytes;
           }
 
-  stream : (c : Stream.Command) → PassesStream c → (b : Bool) → is_set_up c ≡ b → Some T (λ t j. DoesStream tell b c i t j)
+  stream : (c : Stream.Command) → PassesStream c → (b : Bool) → is_set_up c ≡ b → Possibly T (λ t j. DoesStream tell b c i t j)
   stream c p true z = sets_up (eqb (slots_of i) 0)
   stream c p false z = follows c z p (held_by i) refl
 
-  loaded_by : (file : List ℕ) (x : Loading) → loads (slots_of i) file ≡ x → Some T (λ t j. LoadsBy tell x i t j)
+  loaded_by : (file : List ℕ) (x : Loading) → loads (slots_of i) file ≡ x → Possibly T (λ t j. LoadsBy tell x i t j)
   loaded_by file (refusing n) e = refuses n
   loaded_by file (loading l) e = becomes (loaded l) (load_model (slots_of i) file l e)
 
-  does : (c : Command) → Passes c → Some T (λ t j. Does tell c i t j)
+  does : (c : Command) → Passes c → Possibly T (λ t j. Does tell c i t j)
   does (on_stream c) p = stream c p (is_set_up c) refl
   does (save room) p = record { told = tell (save_by room (held_by i)); left = i; meets = (refl, refl); bytes = b }
   does (load file) p = loaded_by file (loads (slots_of i) file) refl

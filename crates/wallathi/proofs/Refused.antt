@@ -2,7 +2,7 @@
 use mathlib.Core.Path.{◌≡◌, refl, ap, ap₂, ◌∙◌}
 use mathlib.Core.Bool.{Bool, true, false}
 use mathlib.Core.List.{List}
-use mathlib.Core.Option.{Option, some, none}
+use Rattle.std.proofs.Common.{Option, Some, None}
 use Prim.Native.Nat.{ℕ, ◌≤◌}
 use native.Mathlib.Omega.{arith}
 use lib.Dec.{eqb}
@@ -48,8 +48,8 @@ module _ {T : Type 0} (tell : Answer → T) (code : T → ℕ) (same : (a : Answ
   sets_up false d = absurd (not_done d.told_is)
 
   follows : (c : Stream.Command) (o : Option Model) → held_by i ≡ o → FollowsBy tell c o i t j → j ≡ i
-  follows c none e d = d.1
-  follows c (some m) e d =
+  follows c None e d = d.1
+  follows c (Some m) e d =
       let slots : ℕ = slots_of i in
       let k = held_rules i m e in
       let a : Answer = (ledger_step (beside_of slots c m) c (ledger_of m)).answer in

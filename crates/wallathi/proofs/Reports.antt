@@ -2,14 +2,13 @@
 use mathlib.Core.Path.{◌≡◌, refl, ap, ◌∙◌, subst}
 use mathlib.Core.Bool.{true}
 use mathlib.Core.List.{List, []}
-use mathlib.Core.Option.{Option, some, none, map}
+use Rattle.std.proofs.Common.{Option, Some, None, option_map}
 use Prim.Native.Nat.{ℕ, ◌≤◌}
 use native.Mathlib.Omega.{arith}
 use lib.ListN.{length}
 use borrow.Author.Tests.{le-leb}
 use Rattle.octets.proofs.Laws.{some_is}
 use Rattle.id.specs.declared.Id.{Id}
-use Rattle.id.specs.declared.Following.TheVariants.{Next}
 use Rattle.id.specs.Id.{least, at_most, following_of}
 use Rattle.stream.specs.Ledger.{Ledger, is_ledger}
 use Rattle.stream.specs.Cut.{Model, ledger_of}
@@ -29,18 +28,18 @@ use Rattle.wallathi.proofs.Absent.{query_seen}
 
 -- what is seen of a report
 reply_seen : (olds : List ℕ) (lacking other : ℕ) (o : Option Integers) → tell_to olds [] (report_by lacking other o) ≡ counts_seen olds lacking other o
-reply_seen olds lacking other none = refl
-reply_seen olds lacking other (some x) = refl
+reply_seen olds lacking other None = refl
+reply_seen olds lacking other (Some x) = refl
 
 report_seen_lem : (i j : Lent) (s : Seen) (name : List ℕ) (first last : Id) (olds : List ℕ) (l : Ledger) → Meets (report_call name first last olds) i s j
-    → ledger_by i ≡ some l → length name ≤ 1000 → s ≡ report_seen olds (report_in name first last l)
+    → ledger_by i ≡ Some l → length name ≤ 1000 → s ≡ report_seen olds (report_in name first last l)
 report_seen_lem i j s name first last olds l d e h =
     let r : Report = report_in name first last l in
     let z : reply_to (report name first last) l ≡ report_reply r = rw (le-leb (length name) 1000 h) in
     query_seen (report name first last) olds [] i j s l d.does e ∙ ap (tell_to olds []) z ∙ reply_seen olds r.lacking r.other r.integers
 
 -- a query keeps every byte
-pub query_keeps : (q : Query) (values output : List ℕ) (i j : Lent) (s : Seen) (m : Model) → held_by i ≡ some m
+pub query_keeps : (q : Query) (values output : List ℕ) (i j : Lent) (s : Seen) (m : Model) → held_by i ≡ Some m
     → Does (tell_to values output) (on_stream (asks q)) i s j → j ≡ i
 query_keeps q values output i j s m h d =
     let x : Shows (tell_to values output) (step (slots_of i) (asks q) m) m i s j =
@@ -49,15 +48,15 @@ query_keeps q values output i j s m h d =
 
 -- the model that a store holds whose ledger is l
 module _ (i : Lent) (l : Ledger) {P : Type 0} where
-  pub held : ledger_by i ≡ some l → ((m : Model) → held_by i ≡ some m → ledger_of m ≡ l → P) → P
+  pub held : ledger_by i ≡ Some l → ((m : Model) → held_by i ≡ Some m → ledger_of m ≡ l → P) → P
   held e k = by (held_by i) refl e
     where
-      by : (o : Option Model) → held_by i ≡ o → map ledger_of o ≡ some l → P
-      by none h e = absurd (let z : ◌≡◌ {A = ℕ} 0 1 = cc in omega arith)
-      by (some m) h e = k m h (some_is e)
+      by : (o : Option Model) → held_by i ≡ o → option_map ledger_of o ≡ Some l → P
+      by None h e = absurd (let z : ◌≡◌ {A = ℕ} 0 1 = cc in omega arith)
+      by (Some m) h e = k m h (some_is e)
 
 pub report_exact : (i j : Lent) (s : Seen) (name : List ℕ) (first last : Id) (olds : List ℕ) (l : Ledger) → Meets (report_call name first last olds) i s j
-    → ledger_by i ≡ some l → length name ≤ 1000 → Reports name first last olds l i s j
+    → ledger_by i ≡ Some l → length name ≤ 1000 → Reports name first last olds l i s j
 report_exact i j s name first last olds l d e h =
     held i l e λ m q p.
     let n : length l.messages ≤ 6400 =
@@ -71,8 +70,8 @@ report_exact i j s name first last olds l d e h =
     }
 
 pub report_parts : (i j k n : Lent) (s t u : Seen) (name : List ℕ) (a b c d : Id) (xs ys zs : List ℕ) (l : Ledger)
-    → Meets (report_call name a b xs) i s j → Meets (report_call name d c ys) i t k → Meets (report_call name a c zs) i u n → ledger_by i ≡ some l
-    → length name ≤ 1000 → following_of b ≡ Next d → at_most a b ≡ true → at_most b c ≡ true → Joins name a b c d l xs ys zs s t u
+    → Meets (report_call name a b xs) i s j → Meets (report_call name d c ys) i t k → Meets (report_call name a c zs) i u n → ledger_by i ≡ Some l
+    → length name ≤ 1000 → following_of b ≡ Some d → at_most a b ≡ true → at_most b c ≡ true → Joins name a b c d l xs ys zs s t u
 report_parts i j k n s t u name a b c d xs ys zs l p q r e h f ab bc =
     held i l e λ m x y.
     let w = laws.ledger_rules l (subst (λ (o : Ledger). is_ledger o ≡ true) y (laws.model_ledger (slots_of i) m (held_rules i m x))) in

@@ -2,7 +2,7 @@
 use mathlib.Core.Path.{◌≡◌, refl, sym, ap, ap₂, ◌∙◌, subst}
 use mathlib.Core.Bool.{Bool, true, false}
 use mathlib.Core.List.{List, [], ◌∷◌, ◌++◌}
-use mathlib.Core.Option.{Option, some, map}
+use Rattle.std.proofs.Common.{Option, Some, option_map}
 use Prim.Native.Nat.{ℕ, suc}
 use native.Mathlib.Omega.{arith}
 use lib.Dec.{eqb}
@@ -28,7 +28,7 @@ use Rattle.wallathi.specs.Demands.{Kept, fresh, model_by, plain_call, kept_after
 use Rattle.wallathi.proofs.Turns.{does_turn}
 
 -- what is held keeps every rule
-pub held_rules : (i : Lent) (m : Model) → held_by i ≡ some m → is_model (slots_of i) m ≡ true
+pub held_rules : (i : Lent) (m : Model) → held_by i ≡ Some m → is_model (slots_of i) m ≡ true
 unfolding image_of image_from
 held_rules i m e =
     let slots : ℕ = slots_of i in
@@ -41,7 +41,7 @@ held_rules i m e =
 -- a store of so many slots that holds ledger and cut
 pub record Stands (slots : ℕ) (i : Lent) (k : Kept) : Type 0 where
   pub slots_are : slots_of i ≡ slots
-  pub holds : held_by i ≡ some (model_by k)
+  pub holds : held_by i ≡ Some (model_by k)
   pub ledger_is : ledger_of (model_by k) ≡ k.ledger
 
 -- one call from there
@@ -59,7 +59,7 @@ stepped {slots} {k} {i} {j} {s} c x h =
     let n : Model = (step_of slots d m).after in
     let t = does_turn tell i j s d x.does in
     let e : is_model slots m ≡ true = ap (λ (n : ℕ). is_model n m) (sym h.slots_are) ∙ held_rules i m h.holds in
-    let q : turn (slots_of i) d (held_by i) ≡ turn slots d (some m) = ap₂ (λ (n : ℕ) (o : Option Model). turn n d o) h.slots_are h.holds in
+    let q : turn (slots_of i) d (held_by i) ≡ turn slots d (Some m) = ap₂ (λ (n : ℕ) (o : Option Model). turn n d o) h.slots_are h.holds in
     let l : ledger_of n ≡ (ledger_turn (beside_turn slots d m) d k.ledger).after =
     turn_ledger slots d m e ∙ ap (λ (x : Ledger). (ledger_turn (beside_turn slots d m) d x).after) h.ledger_is in
     record {
@@ -68,7 +68,7 @@ stepped {slots} {k} {i} {j} {s} c x h =
           ∙ ap (λ (x : Ledger). tell (ledger_turn (beside_turn slots d m) d x).answer) h.ledger_is;
       stands = record {
         slots_are = ap slots_in t.size_kept ∙ h.slots_are;
-        holds = t.held_is ∙ ap (λ (x : Turn Answer (Option Model)). x.after) q ∙ ap (λ (x : Ledger). some (model_of n.nodes x)) l;
+        holds = t.held_is ∙ ap (λ (x : Turn Answer (Option Model)). x.after) q ∙ ap (λ (x : Ledger). Some (model_of n.nodes x)) l;
         ledger_is = ap (λ (x : Ledger). ledger_of (model_of n.nodes x)) (sym l) ∙ l;
       };
       size_kept = t.size_kept;
@@ -128,7 +128,7 @@ whole {cs} {i} {k} {ss} i₀ s d e m =
     record {
       sees = r.sees;
       holds = r.stands.holds;
-      ledger_is = ap (map ledger_of) r.stands.holds ∙ ap some r.stands.ledger_is;
+      ledger_is = ap (option_map ledger_of) r.stands.holds ∙ ap Some r.stands.ledger_is;
       rules = ap (λ (n : ℕ). is_model n (model_by x)) (sym r.stands.slots_are) ∙ held_rules k (model_by x) r.stands.holds;
       bytes = y;
       laid = image_laid k.store k.state (model_by x) y.store y.state r.stands.holds;
@@ -137,25 +137,25 @@ whole {cs} {i} {k} {ss} i₀ s d e m =
     }
 
 -- one call on two stores that hold one ledger
-pub alone : {j l : Lent} {s t : Seen} (c : Call) (i k : Lent) (m n : Model) → Meets c i s j → Meets c k t l → held_by i ≡ some m → held_by k ≡ some n
+pub alone : {j l : Lent} {s t : Seen} (c : Call) (i k : Lent) (m n : Model) → Meets c i s j → Meets c k t l → held_by i ≡ Some m → held_by k ≡ Some n
     → slots_of i ≡ slots_of k → ledger_of m ≡ ledger_of n → OneAnswer s j t l
 alone {j} {l} {s} {t} c i k m n p q e f z g =
     let tell : Answer → Seen = tell_to c.values c.output in
     let d : Command = command_of c in
     let a = does_turn tell i j s d p.does in
     let b = does_turn tell k l t d q.does in
-    let u : turn (slots_of i) d (held_by i) ≡ turn (slots_of i) d (some m) = ap (turn (slots_of i) d) e in
-    let v : turn (slots_of k) d (held_by k) ≡ turn (slots_of i) d (some n) = ap₂ (λ (x : ℕ) (o : Option Model). turn x d o) (sym z) f in
+    let u : turn (slots_of i) d (held_by i) ≡ turn (slots_of i) d (Some m) = ap (turn (slots_of i) d) e in
+    let v : turn (slots_of k) d (held_by k) ≡ turn (slots_of i) d (Some n) = ap₂ (λ (x : ℕ) (o : Option Model). turn x d o) (sym z) f in
     by
     (a.told_is ∙ ap (λ (x : Turn Answer (Option Model)). tell x.answer) u) (b.told_is ∙ ap (λ (x : Turn Answer (Option Model)). tell x.answer) v)
     (a.held_is ∙ ap (λ (x : Turn Answer (Option Model)). x.after) u) (b.held_is ∙ ap (λ (x : Turn Answer (Option Model)). x.after) v)
     (turn_alone (slots_of i) d m n (held_rules i m e) (ap (λ (x : ℕ). is_model x n) z ∙ held_rules k n f) g)
   where
     by : s ≡ tell_to c.values c.output (step_of (slots_of i) (command_of c) m).answer → t ≡ tell_to c.values c.output (step_of (slots_of i) (command_of c) n).answer
-        → held_by j ≡ some (step_of (slots_of i) (command_of c) m).after → held_by l ≡ some (step_of (slots_of i) (command_of c) n).after
+        → held_by j ≡ Some (step_of (slots_of i) (command_of c) m).after → held_by l ≡ Some (step_of (slots_of i) (command_of c) n).after
         → Alone (step_of (slots_of i) (command_of c) m) (step_of (slots_of i) (command_of c) n) → OneAnswer s j t l
     by a b h o (one_answer x y) =
-        demands.one_answer (a ∙ ap (tell_to c.values c.output) x ∙ sym b) (ap (map ledger_of) h ∙ ap some y ∙ sym (ap (map ledger_of) o))
+        demands.one_answer (a ∙ ap (tell_to c.values c.output) x ∙ sym b) (ap (option_map ledger_of) h ∙ ap Some y ∙ sym (ap (option_map ledger_of) o))
     by a b h o (first_seven x) = demands.first_seven (ap (λ (y : Seen). y.code) (a ∙ ap (tell_to c.values c.output) x))
     by a b h o (second_seven x) = demands.second_seven (ap (λ (y : Seen). y.code) (b ∙ ap (tell_to c.values c.output) x))
 
@@ -166,7 +166,7 @@ alike {cs} i₀ j₀ s t n d e m f g o =
     let a = whole i₀ s d e m in
     let b = whole j₀ t f g o in (
       a.sees ∙ ap (λ (x : ℕ). seen_of x cs) n ∙ sym b.sees,
-      a.holds ∙ ap (λ (x : ℕ). some (model_by (kept_after x cs))) n ∙ sym b.holds,
+      a.holds ∙ ap (λ (x : ℕ). Some (model_by (kept_after x cs))) n ∙ sym b.holds,
     )
 
 -- one call in the middle of a list

@@ -2,12 +2,13 @@
 use mathlib.Core.Path.{◌≡◌, refl, sym, ap, ◌∙◌}
 use mathlib.Core.Bool.{Bool, true, false}
 use mathlib.Core.List.{List, [], ◌∷◌, ◌++◌}
-use mathlib.Core.Option.{Option, some, none, map}
+use Rattle.std.proofs.Common.{Option, Some, None, option_map}
 use Prim.Native.Nat.{ℕ, ◌+◌}
 use native.Mathlib.Omega.{arith}
 use lib.Dec.{leb}
 use lib.ListN.{length, take, drop}
 use lib.Seq.{take_at}
+use Rattle.refusal.specs.declared.Refusal.TheVariants.{ShortOutput, MostNodes}
 use Rattle.octets.specs.Pick.{pick}
 use Rattle.octets.specs.Place.{put}
 use Rattle.octets.proofs.Laws.{some_is}
@@ -35,7 +36,7 @@ save_seen_lem : (len : ℕ) (out : List ℕ) (l : Ledger) → tell_to (len ∷ [
 unfolding save_reply
 save_seen_lem len out l = by (leb (length (fresh_cut l.messages)) 64) (leb (length (snapshot_of l)) (length out))
   where
-    by : (a b : Bool) → tell_to (len ∷ []) out (pick a (pick b (written (snapshot_of l)) (refused 8)) (refused 15))
+    by : (a b : Bool) → tell_to (len ∷ []) out (pick a (pick b (written (snapshot_of l)) (refused ShortOutput)) (refused MostNodes))
         ≡ pick a (pick b (seen 0 (length (snapshot_of l) ∷ []) (snapshot_of l ++ drop (length (snapshot_of l)) out)) (seen 8 (len ∷ []) out)) (seen 15 (len ∷ []) out)
     by true true = ap (λ (bs : List ℕ). seen 0 (length (snapshot_of l) ∷ []) bs) (put_first out (snapshot_of l))
     by true false = refl
@@ -43,17 +44,17 @@ save_seen_lem len out l = by (leb (length (fresh_cut l.messages)) 64) (leb (leng
 
 module _ (i j : Lent) (s : Seen) (len : ℕ) (out : List ℕ) (d : Meets (call save (len ∷ []) out) i s j) where
   -- of an image
-  pub saved : (l : Ledger) → ledger_by i ≡ some l → (s ≡ save_seen len out l) × (j ≡ i)
+  pub saved : (l : Ledger) → ledger_by i ≡ Some l → (s ≡ save_seen len out l) × (j ≡ i)
   saved l e = (by (held_by i) e d.does.0, d.does.1)
     where
-      by : (h : Option Model) → map ledger_of h ≡ some l → s ≡ tell_to (len ∷ []) out (save_by (length out) h) → s ≡ save_seen len out l
-      by none e q = absurd (let z : ◌≡◌ {A = ℕ} 0 1 = cc in omega arith)
-      by (some m) e q = q ∙ ap (λ (x : Ledger). tell_to (len ∷ []) out (save_reply (length out) x)) (some_is e) ∙ save_seen_lem len out l
+      by : (h : Option Model) → option_map ledger_of h ≡ Some l → s ≡ tell_to (len ∷ []) out (save_by (length out) h) → s ≡ save_seen len out l
+      by None e q = absurd (let z : ◌≡◌ {A = ℕ} 0 1 = cc in omega arith)
+      by (Some m) e q = q ∙ ap (λ (x : Ledger). tell_to (len ∷ []) out (save_reply (length out) x)) (some_is e) ∙ save_seen_lem len out l
 
   -- an accepted save: its file is what a model's save writes
   pub record Accepted : Type 0 where
     pub model : Model
-    pub held : held_by i ≡ some model
+    pub held : held_by i ≡ Some model
     pub writes : save_reply (length out) (ledger_of model) ≡ written (file_in s)
 
   pub accepted : s.code ≡ 0 → Accepted
@@ -63,8 +64,8 @@ module _ (i j : Lent) (s : Seen) (len : ℕ) (out : List ℕ) (d : Meets (call s
       code_is : {t : Seen} → s ≡ t → t.code ≡ 0
       code_is q = sym (ap (λ (x : Seen). x.code) q) ∙ e
 
-      tests : (m : Model) → held_by i ≡ some m → (a b : Bool) → leb (length (fresh_cut (ledger_of m).messages)) 64 ≡ a → leb (length (snapshot_of (ledger_of m))) (length out) ≡ b
-          → s ≡ tell_to (len ∷ []) out (pick a (pick b (written (snapshot_of (ledger_of m))) (refused 8)) (refused 15)) → Accepted
+      tests : (m : Model) → held_by i ≡ Some m → (a b : Bool) → leb (length (fresh_cut (ledger_of m).messages)) 64 ≡ a → leb (length (snapshot_of (ledger_of m))) (length out) ≡ b
+          → s ≡ tell_to (len ∷ []) out (pick a (pick b (written (snapshot_of (ledger_of m))) (refused ShortOutput)) (refused MostNodes)) → Accepted
       tests m h true true p q t =
           let f : List ℕ = snapshot_of (ledger_of m) in
           let z : file_in s ≡ f = ap file_in t ∙ file_is len out f in
@@ -73,8 +74,8 @@ module _ (i j : Lent) (s : Seen) (len : ℕ) (out : List ℕ) (d : Meets (call s
       tests m h false b p q t = absurd (let z : 15 ≡ 0 = code_is t in omega arith)
 
       by : (h : Option Model) → held_by i ≡ h → s ≡ tell_to (len ∷ []) out (save_by (length out) h) → Accepted
-      by none h q = absurd (let z : 2 ≡ 0 = code_is q in omega arith)
-      by (some m) h q = tests m h (leb (length (fresh_cut (ledger_of m).messages)) 64) (leb (length (snapshot_of (ledger_of m))) (length out)) refl refl q
+      by None h q = absurd (let z : 2 ≡ 0 = code_is q in omega arith)
+      by (Some m) h q = tests m h (leb (length (fresh_cut (ledger_of m).messages)) 64) (leb (length (snapshot_of (ledger_of m))) (length out)) refl refl q
 
 -- two stores whose saves are accepted
 pub same_saves : (i j k l : Lent) (s t : Seen) (m n : ℕ) (out place : List ℕ) → Meets (call save (m ∷ []) out) i s j → Meets (call save (n ∷ []) place) k t l
@@ -82,11 +83,11 @@ pub same_saves : (i j k l : Lent) (s t : Seen) (m n : ℕ) (out place : List ℕ
 same_saves i j k l s t m n out place d e p q =
     let a = accepted i j s m out d p in
     let b = accepted k l t n place e q in
-    let u : ledger_by i ≡ some (ledger_of a.model) = ap (map ledger_of) a.held in
-    let v : ledger_by k ≡ some (ledger_of b.model) = ap (map ledger_of) b.held in
+    let u : ledger_by i ≡ Some (ledger_of a.model) = ap (option_map ledger_of) a.held in
+    let v : ledger_by k ≡ Some (ledger_of b.model) = ap (option_map ledger_of) b.held in
     let w =
     saves_same (slots_of i) (slots_of k) (length out) (length place) a.model b.model (file_in s) (file_in t) (held_rules i a.model a.held) (held_rules k b.model b.held) a.writes b.writes in
-    (λ x. u ∙ ap some (w.0 x) ∙ sym v, λ x. w.1 (some_is (sym u ∙ x ∙ v)))
+    (λ x. u ∙ ap Some (w.0 x) ∙ sym v, λ x. w.1 (some_is (sym u ∙ x ∙ v)))
 
 -- a save in a list from a fresh store
 pub saved_there : (cs ds : List Call) {i k : Lent} {ss : List Seen} (i₀ : Lent) (s : Seen) (len : ℕ) (out : List ℕ) → Meets (plain set_up []) i₀ s i

@@ -2,11 +2,12 @@
 use mathlib.Core.Path.{◌≡◌, refl, sym, ap, ap₂, ◌∙◌, subst}
 use mathlib.Core.Bool.{Bool, true, false}
 use mathlib.Core.List.{List, [], ◌∷◌, ◌++◌}
-use mathlib.Core.Option.{Option, some, none}
+use Rattle.std.proofs.Common.{Option, Some, None}
 use Prim.Native.Nat.{ℕ, zero, suc, ◌+◌, ◌≤◌}
 use native.Mathlib.Omega.{arith}
 use lib.Dec.{eqb}
 use lib.ListN.{length, get_or, get_or-eq_default}
+use Rattle.refusal.specs.declared.Refusal.TheVariants.{NoSlot, Damaged}
 use Rattle.octets.specs.Place.{put}
 use Rattle.stream.specs.Cut.{Model, empty_model, ledger_of}
 use Rattle.stream.specs.Command as Stream
@@ -30,20 +31,20 @@ module _ {T U : Type 0} (f : Answer → T) (g : Answer → U) (i j : Lent) (t : 
     becomes m d = record { told_is = k done tt d.told_is; size_kept = d.size_kept; holds = d.holds; tail_kept = d.tail_kept; index_is = d.index_is }
 
     sets_up : (b : Bool) → SetsUpBy f b i t j → SetsUpBy g b i u j
-    sets_up true d = (k (refused 1) tt d.0, d.1)
+    sets_up true d = (k (refused NoSlot) tt d.0, d.1)
     sets_up false d = becomes empty_model d
 
     saves : (o : Option Model) → t ≡ f (save_by room o) → u ≡ g (save_by room o)
-    saves none e = k (refused 2) tt e
-    saves (some m) e = k (save_reply room (ledger_of m)) (save_fits room (ledger_of m)) e
+    saves None e = k (refused Damaged) tt e
+    saves (Some m) e = k (save_reply room (ledger_of m)) (save_fits room (ledger_of m)) e
 
     loads : (x : Loading) → LoadsBy f x i t j → LoadsBy g x i u j
     loads (refusing n) d = (k (refused n) tt d.0, d.1)
     loads (loading l) d = becomes (loaded l) d
 
   follows : (c : Stream.Command) → ((a : Answer) → Fits (room_by c) a → t ≡ f a → u ≡ g a) → (o : Option Model) → FollowsBy f c o i t j → FollowsBy g c o i u j
-  follows c k none d = (k (refused 2) tt d.0, d.1)
-  follows c k (some m) d =
+  follows c k None d = (k (refused Damaged) tt d.0, d.1)
+  follows c k (Some m) d =
       let s = step (slots_of i) c m in
       let h : Fits (room_by c) s.answer =
       subst (Fits (room_by c)) (sym (answer_step (slots_of i) c m)) (stream_fits c (beside_of (slots_of i) c m) (ledger_of m)) in

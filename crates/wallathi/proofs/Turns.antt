@@ -3,10 +3,12 @@
 use mathlib.Core.Path.{◌≡◌, refl, sym, ap, ◌∙◌}
 use mathlib.Core.Bool.{Bool, true, false}
 use mathlib.Core.List.{List}
-use mathlib.Core.Option.{Option, some, none}
+use Rattle.std.proofs.Common.{Option, Some, None}
 use Prim.Native.Nat.{ℕ}
 use lib.Dec.{eqb}
 use lib.ListN.{length}
+use Rattle.refusal.specs.declared.Refusal.{Refusal}
+use Rattle.refusal.specs.declared.Refusal.TheVariants.{NoSlot, Damaged}
 use Rattle.octets.specs.Pick.{pick}
 use Rattle.stream.specs.Cut.{Model, empty_model}
 use Rattle.stream.specs.Command as Stream
@@ -26,15 +28,15 @@ stepped a m = record { answer = a; after = m }
 
 -- set up and load, by what they do to every model: a refusal leaves what is held; otherwise it does not matter
 module _ (slots : ℕ) (c : Command) (z : heals c ≡ true) where
-  heals_not : (n : ℕ) → ((m : Model) → step_of slots c m ≡ refuses m n) → (h : Option Model) → turn slots c h ≡ turned (refused n) h
-  heals_not n e none = ap (λ (b : Bool). pick b (healed (step_of slots c empty_model)) (turned (refused 2) none)) z ∙ ap healed (e empty_model)
-  heals_not n e (some m) = ap (λ (s : Step). turned s.answer (some s.after)) (e m)
+  heals_not : (n : Refusal) → ((m : Model) → step_of slots c m ≡ refuses m n) → (h : Option Model) → turn slots c h ≡ turned (refused n) h
+  heals_not n e None = ap (λ (b : Bool). pick b (healed (step_of slots c empty_model)) (turned (refused Damaged) None)) z ∙ ap healed (e empty_model)
+  heals_not n e (Some m) = ap (λ (s : Step). turned s.answer (Some s.after)) (e m)
 
-  heals_to : (x : Model) → ((m : Model) → step_of slots c m ≡ stepped done x) → (h : Option Model) → turn slots c h ≡ turned done (some x)
-  heals_to x e none = ap (λ (b : Bool). pick b (healed (step_of slots c empty_model)) (turned (refused 2) none)) z ∙ ap healed (e empty_model)
-  heals_to x e (some m) = ap (λ (s : Step). turned s.answer (some s.after)) (e m)
+  heals_to : (x : Model) → ((m : Model) → step_of slots c m ≡ stepped done x) → (h : Option Model) → turn slots c h ≡ turned done (Some x)
+  heals_to x e None = ap (λ (b : Bool). pick b (healed (step_of slots c empty_model)) (turned (refused Damaged) None)) z ∙ ap healed (e empty_model)
+  heals_to x e (Some m) = ap (λ (s : Step). turned s.answer (Some s.after)) (e m)
 
-set_up_none : (slots : ℕ) (m : Model) → eqb slots 0 ≡ true → step slots Stream.set_up m ≡ refuses m 1
+set_up_none : (slots : ℕ) (m : Model) → eqb slots 0 ≡ true → step slots Stream.set_up m ≡ refuses m NoSlot
 unfolding step on_set_up
 set_up_none slots m e = rw e
 
@@ -59,7 +61,7 @@ module _ {T : Type 0} (tell : Answer → T) (i j : Lent) (t : T) where
         tail_kept = ap tail_of k;
       }
 
-  goes : (c : Command) (a : Answer) (m : Model) → turn (slots_of i) c (held_by i) ≡ turned a (some m) → t ≡ tell a → held_by j ≡ some m
+  goes : (c : Command) (a : Answer) (m : Model) → turn (slots_of i) c (held_by i) ≡ turned a (Some m) → t ≡ tell a → held_by j ≡ Some m
       → length j.store ≡ length i.store → tail_of j ≡ tail_of i → Turned c
   goes c a m e h p z r =
       record {
@@ -69,30 +71,30 @@ module _ {T : Type 0} (tell : Answer → T) (i j : Lent) (t : T) where
         tail_kept = r;
       }
 
-  becomes : (c : Command) (m : Model) → turn (slots_of i) c (held_by i) ≡ turned done (some m) → Becomes tell m i t j → Turned c
+  becomes : (c : Command) (m : Model) → turn (slots_of i) c (held_by i) ≡ turned done (Some m) → Becomes tell m i t j → Turned c
   becomes c m e d = goes c done m e d.told_is d.holds d.size_kept d.tail_kept
 
   follows : (c : Stream.Command) → is_set_up c ≡ false → (h : Option Model) → held_by i ≡ h → FollowsBy tell c h i t j → Turned (on_stream c)
-  follows c z none p d =
-      still (on_stream c) (refused 2)
+  follows c z None p d =
+      still (on_stream c) (refused Damaged)
       (ap (turn (slots_of i) (on_stream c)) p
-      ∙ ap (λ (b : Bool). pick b (healed (step (slots_of i) c empty_model)) (turned (refused 2) none)) z
-      ∙ ap (turned (refused 2)) (sym p))
+      ∙ ap (λ (b : Bool). pick b (healed (step (slots_of i) c empty_model)) (turned (refused Damaged) None)) z
+      ∙ ap (turned (refused Damaged)) (sym p))
       d.0 d.1
-  follows c z (some m) p d =
+  follows c z (Some m) p d =
       let s = step (slots_of i) c m in
       goes (on_stream c) s.answer s.after (ap (turn (slots_of i) (on_stream c)) p) d.told_is d.holds d.size_kept d.tail_kept
 
   sets_up : (b : Bool) → eqb (slots_of i) 0 ≡ b → SetsUpBy tell b i t j → Turned (on_stream Stream.set_up)
   sets_up true e d =
-      still (on_stream Stream.set_up) (refused 1) (heals_not (slots_of i) (on_stream Stream.set_up) refl 1 (λ m. set_up_none (slots_of i) m e) (held_by i)) d.0 d.1
+      still (on_stream Stream.set_up) (refused NoSlot) (heals_not (slots_of i) (on_stream Stream.set_up) refl NoSlot (λ m. set_up_none (slots_of i) m e) (held_by i)) d.0 d.1
   sets_up false e d =
       becomes (on_stream Stream.set_up) empty_model
       (heals_to (slots_of i) (on_stream Stream.set_up) refl empty_model (λ m. set_up_done (slots_of i) m e) (held_by i)) d
 
   saves : (room : ℕ) (h : Option Model) → turn (slots_of i) (save room) h ≡ turned (save_by room h) h
-  saves room none = refl
-  saves room (some m) = refl
+  saves room None = refl
+  saves room (Some m) = refl
 
   loaded_by : (file : List ℕ) (x : Loading) → loads (slots_of i) file ≡ x → LoadsBy tell x i t j → Turned (load file)
   loaded_by file (refusing n) e d =

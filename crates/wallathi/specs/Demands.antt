@@ -1,13 +1,11 @@
 -- What is claimed of whole lists of calls (00, The order; 01, Snapshot, last paragraph; 02), for every host that calls the exported
 -- functions one after the other on one store and its state: the record `Demands`, at the end. Before it stands what its words mean.
 -- proofs/Demands proves it. Assumes nothing.
-use Rattle.std.specs.Prelude.{◌≡◌, true, false, ℕ, ◌-◌, ◌*◌, ◌^◌, ◌≤◌, ◌<◌, min, leb, length, take, drop, get_or}
+use Rattle.std.specs.Prelude.{◌≡◌, true, false, ℕ, ◌-◌, ◌*◌, ◌^◌, ◌≤◌, ◌<◌, min, leb, length, take, drop, get_or, Option, Some, None, option_map}
 use mathlib.Core.List.{List, [], ◌∷◌, ◌++◌, Memᴰ}
-use Rattle.std.proofs.Math.Option.{Option, some, none, map}
 use Rattle.octets.specs.Pick.{pick}
 use Rattle.octets.specs.Bytes.{Bytes}
 use Rattle.id.specs.declared.Id.{Id}
-use Rattle.id.specs.declared.Following.TheVariants.{Next}
 use Rattle.id.specs.Id.{Fits64, below, at_most, following_of}
 use Rattle.node.specs.Message.{Message}
 use Rattle.node.specs.Step.{find_message, value_of}
@@ -68,14 +66,14 @@ seen_of slots cs = answers (plain_call slots) cs fresh
 
 -- a store holds a ledger when it and its state are the image of it and some cut
 abbrev pub ledger_by : Lent → Option Ledger
-ledger_by i = map ledger_of (held_by i)
+ledger_by i = option_map ledger_of (held_by i)
 
 -- demands 2 and 3: every list of calls cs on the store i₀ once it is set up answers as the plain ledger does with its cut beside it, and
 -- the store k after it holds ledger and cut; it is laid out by the published encoding; bytes past the last slot are never touched
 pub record AsLedger (i₀ : Lent) (cs : List Call) (ss : List Seen) (k : Lent) : Type 0 where
   pub sees : ss ≡ seen_of (slots_of i₀) cs
-  pub holds : held_by k ≡ some (model_by (kept_after (slots_of i₀) cs))
-  pub ledger_is : ledger_by k ≡ some (kept_after (slots_of i₀) cs).ledger
+  pub holds : held_by k ≡ Some (model_by (kept_after (slots_of i₀) cs))
+  pub ledger_is : ledger_by k ≡ Some (kept_after (slots_of i₀) cs).ledger
   pub rules : is_model (slots_of i₀) (model_by (kept_after (slots_of i₀) cs)) ≡ true
   pub bytes : AreBytes k
   pub laid : Laid k.store k.state (model_by (kept_after (slots_of i₀) cs))
@@ -120,8 +118,8 @@ pub record Fits (file : List ℕ) (i : Lent) (l : Ledger) : Type 0 where
 pub record Loaded (file : List ℕ) (i j : Lent) : Type 0 where
   pub ledger : Ledger
   pub fits : Fits file i ledger
-  pub holds : ledger_by j ≡ some ledger
-  pub cut_is : held_by j ≡ some (loaded ledger)
+  pub holds : ledger_by j ≡ Some ledger
+  pub cut_is : held_by j ≡ Some (loaded ledger)
   pub size_kept : length j.store ≡ length i.store
   pub tail_kept : tail_of j ≡ tail_of i
 
@@ -172,7 +170,7 @@ seen_ids (i ∷ is) = seen 0 (i.ms ∷ (i.seq ∷ [])) [] ∷ seen_ids is
 pub record ReadsMany (name consumer : List ℕ) (time n : ℕ) (out : List ℕ) (l : Ledger) (i : Lent) (s : Seen) (j : Lent) : Type 0 where
   pub group : Group
   pub ids : List Id
-  pub found : find_group name l.groups ≡ some group
+  pub found : find_group name l.groups ≡ Some group
   pub smallest : length ids ≡ min n (min (length (ids_after group.delivered l.messages)) (most_pending - length group.pending))
   pub sees : s ≡ seen 0 (16 * length ids ∷ []) (ids_bytes ids ++ drop (16 * length ids) out)
   pub singles : (olds : List Id) (ss : List Seen) (k : Lent) → length olds ≡ length ids → Made (single_reads name consumer time olds) i ss k
@@ -193,8 +191,8 @@ abbrev pub report_call : List ℕ → Id → Id → List ℕ → Call
 report_call name first last olds = plain (asks (report name first last)) olds
 
 abbrev pub counts_seen : List ℕ → ℕ → ℕ → Option Integers → Seen
-counts_seen olds lacking other none = seen 35 (over (lacking ∷ (other ∷ (0 ∷ (0 ∷ [])))) olds) []
-counts_seen olds lacking other (some x) =
+counts_seen olds lacking other None = seen 35 (over (lacking ∷ (other ∷ (0 ∷ (0 ∷ [])))) olds) []
+counts_seen olds lacking other (Some x) =
     seen 0 (over (lacking ∷ (other ∷ (x.count ∷ (pattern_by x.sum ∷ (pattern_by x.smallest ∷ (pattern_by x.largest ∷ [])))))) olds) []
 
 abbrev pub report_seen : List ℕ → Report → Seen
@@ -206,7 +204,7 @@ pub record Reports (name : List ℕ) (first last : Id) (olds : List ℕ) (l : Le
   pub sees : s ≡ report_seen olds (report_in name first last l)
   pub kept : j ≡ i
   pub counts : counts_of (report_in name first last l) ≡ length (between first last l.messages)
-  pub exact : (x : Integers) → (report_in name first last l).integers ≡ some x → Exact x
+  pub exact : (x : Integers) → (report_in name first last l).integers ≡ Some x → Exact x
   pub empty : below last first ≡ true → between first last l.messages ≡ []
 
 -- three reports on a store that holds l: from a to b, from the ID d that follows b to c, and from a to c, which is the two joined
@@ -224,7 +222,7 @@ range_call first last len out = call (λ room. on_stream (asks (range_reply firs
 pub record RangeReplies (first last : Id) (len : ℕ) (out : List ℕ) (l : Ledger) (i : Lent) (s : Seen) (j : Lent) : Type 0 where
   pub sees : s ≡ tell_to (len ∷ []) out (writes (length out) (range_bytes (between first last l.messages)))
   pub kept : j ≡ i
-  pub parsed : s.code ≡ 0 → parse_reply (file_in s) ≡ some (range (between first last l.messages))
+  pub parsed : s.code ≡ 0 → parse_reply (file_in s) ≡ Some (range (between first last l.messages))
   pub counts : s.code ≡ 0 → (olds : List ℕ)
       → read_seen olds (parse_reply (file_in s)) ≡ seen 0 (over (1 ∷ (length (between first last l.messages) ∷ [])) olds) []
   pub gives : s.code ≡ 0 → (place : ℕ) (olds to : List ℕ)
@@ -286,11 +284,11 @@ pub record Demands : Type 0 where
       → Meets (plain set_up []) i₀ s i → s.code ≡ 0 → Made cs i ss k → Meets (plain set_up []) j₀ t j → t.code ≡ 0 → Made cs j ts l
       → (ss ≡ ts) × (held_by k ≡ held_by l)
   -- "Of the answers only refusal 7 depends on" the cut (01): one call on two stores, reached or handed in, that hold one ledger
-  pub only_seven : (j l : Lent) (s t : Seen) (c : Call) (i k : Lent) (m n : Model) → Meets c i s j → Meets c k t l → held_by i ≡ some m
-      → held_by k ≡ some n → slots_of i ≡ slots_of k → ledger_of m ≡ ledger_of n → OneAnswer s j t l
+  pub only_seven : (j l : Lent) (s t : Seen) (c : Call) (i k : Lent) (m n : Model) → Meets c i s j → Meets c k t l → held_by i ≡ Some m
+      → held_by k ≡ Some n → slots_of i ≡ slots_of k → ledger_of m ≡ ledger_of n → OneAnswer s j t l
   -- "A save is refused exactly as document 01's table says, and every save that is accepted writes exactly the snapshot of the ledger its
   -- store holds": on any store that holds a ledger, reached or handed in; it keeps every byte of store and state
-  pub save_exact : (i j : Lent) (s : Seen) (len : ℕ) (out : List ℕ) (l : Ledger) → Meets (call save (len ∷ []) out) i s j → ledger_by i ≡ some l
+  pub save_exact : (i j : Lent) (s : Seen) (len : ℕ) (out : List ℕ) (l : Ledger) → Meets (call save (len ∷ []) out) i s j → ledger_by i ≡ Some l
       → (s ≡ save_seen len out l) × (j ≡ i)
   -- and anywhere in a list
   pub save_in_list : (cs ds : List Call) (i k : Lent) (ss : List Seen) (i₀ : Lent) (s : Seen) (len : ℕ) (out : List ℕ) → Meets (plain set_up []) i₀ s i
@@ -304,17 +302,17 @@ pub record Demands : Type 0 where
   -- that store of at least 4,096 bytes, and the store then holds that ledger"; otherwise every byte is kept
   pub load_exact : (file : List ℕ) (i j : Lent) (s : Seen) → Meets (call (λ _. load file) [] []) i s j → Loads file i s j
   -- "In each group a pending ID has exactly one consumer": in every group of every store that holds a ledger
-  pub one_consumer : (i : Lent) (m : Model) (g : Group) (p : Pending) → held_by i ≡ some m → Memᴰ g m.groups → Memᴰ p g.pending
+  pub one_consumer : (i : Lent) (m : Model) (g : Group) (p : Pending) → held_by i ≡ Some m → Memᴰ g m.groups → Memᴰ p g.pending
       → OneConsumer g p
   -- "A field that a message lacks reads as absent, never as zero or empty": 33, and nothing is written, in the output, the store or the
   -- state
   pub absent_field : (i j : Lent) (s : Seen) (id : Id) (name : List ℕ) (len : ℕ) (out : List ℕ) (l : Ledger) (x : Message)
-      → Meets (call (λ n. on_stream (asks (field id name n))) (len ∷ []) out) i s j → ledger_by i ≡ some l → find_message id l.messages ≡ some x
-      → length name ≤ 1000 → value_of name x.pairs ≡ none → (s ≡ seen 33 (len ∷ []) out) × (j ≡ i)
+      → Meets (call (λ n. on_stream (asks (field id name n))) (len ∷ []) out) i s j → ledger_by i ≡ Some l → find_message id l.messages ≡ Some x
+      → length name ≤ 1000 → value_of name x.pairs ≡ None → (s ≡ seen 33 (len ∷ []) out) × (j ≡ i)
   -- "It delivers the smallest of n, the live messages above last delivered, and the free pending entries, and equals that many single
   -- reads in a row" (02, CR 1): on any store that holds a ledger, reached or handed in
   pub batch_exact : (i j : Lent) (s : Seen) (name consumer : List ℕ) (time n len : ℕ) (out : List ℕ) (l : Ledger)
-      → Meets (read_many name consumer time n len out) i s j → ledger_by i ≡ some l → s.code ≡ 0 → ReadsMany name consumer time n out l i s j
+      → Meets (read_many name consumer time n len out) i s j → ledger_by i ≡ Some l → s.code ≡ 0 → ReadsMany name consumer time n out l i s j
   -- and anywhere in a list: with so many single reads in its place the other answers are the same, and so is what is held in the end
   pub batch_in_list : (cs ds : List Call) (i j k l : Lent) (ss ts : List Seen) (i₀ j₀ : Lent) (s t x : Seen) (name consumer : List ℕ) (time n len : ℕ)
       (out : List ℕ) (olds : List Id) → slots_of i₀ ≡ slots_of j₀ → Meets (plain set_up []) i₀ s i → s.code ≡ 0
@@ -326,25 +324,25 @@ pub record Demands : Type 0 where
   -- there is no smallest or largest, and the answer says so"; "a first above the last means an empty range" (02, CR 2): on any store that
   -- holds a ledger, reached or handed in, of which every byte is kept
   pub report_exact : (i j : Lent) (s : Seen) (name : List ℕ) (first last : Id) (olds : List ℕ) (l : Ledger) → Meets (report_call name first last olds) i s j
-      → ledger_by i ≡ some l → length name ≤ 1000 → Reports name first last olds l i s j
+      → ledger_by i ≡ Some l → length name ≤ 1000 → Reports name first last olds l i s j
   -- and the reports over two halves of a range add up to the report over the whole
   pub report_parts : (i j k n : Lent) (s t u : Seen) (name : List ℕ) (a b c d : Id) (xs ys zs : List ℕ) (l : Ledger)
-      → Meets (report_call name a b xs) i s j → Meets (report_call name d c ys) i t k → Meets (report_call name a c zs) i u n → ledger_by i ≡ some l
-      → length name ≤ 1000 → following_of b ≡ Next d → at_most a b ≡ true → at_most b c ≡ true → Joins name a b c d l xs ys zs s t u
+      → Meets (report_call name a b xs) i s j → Meets (report_call name d c ys) i t k → Meets (report_call name a c zs) i u n → ledger_by i ≡ Some l
+      → length name ≤ 1000 → following_of b ≡ Some d → at_most a b ≡ true → at_most b c ≡ true → Joins name a b c d l xs ys zs s t u
   -- "Write the range reply (ends included)"; "what is written reads back" (02, CR 4): on any store that holds a ledger, reached or handed in,
   -- of which every byte is kept
   pub range_exact : (i j : Lent) (s : Seen) (first last : Id) (len : ℕ) (out : List ℕ) (l : Ledger) → Meets (range_call first last len out) i s j
-      → ledger_by i ≡ some l → RangeReplies first last len out l i s j
+      → ledger_by i ≡ Some l → RangeReplies first last len out l i s j
   -- "It accepts exactly what is written for some list, however long, of messages that 01 allows live in rising ID order, some such integer
   -- or refusal number" (02, CR 4): of any bytes
   pub reply_exact : (s : List ℕ) (x : Reply) → Bytes s
-      → (parse_reply s ≡ some x → (s ≡ reply_bytes x) × (is_reply x ≡ true))
-      × (length s < 2 ^ 64 → s ≡ reply_bytes x → is_reply x ≡ true → parse_reply s ≡ some x)
+      → (parse_reply s ≡ Some x → (s ≡ reply_bytes x) × (is_reply x ≡ true))
+      × (length s < 2 ^ 64 → s ≡ reply_bytes x → is_reply x ≡ true → parse_reply s ≡ Some x)
   -- "Whatever document 01 refuses .. gets that document's number, and the store and the output keep all their bytes": whatever a call
   -- answers but 0, so none, nothing new, absent and not moved (32, 33, 34) too; of 35 `report_exact` says which numbers are written
   pub refused_keeps : (c : Call) (i j : Lent) (s : Seen) → Meets c i s j → 1 ≤ s.code → Refuses c i s j
   -- ".. damaged stores included where it says so": a store that is no image, until it is set up or loaded
-  pub damaged : (cs : List Call) (i k : Lent) (ss : List Seen) → Made cs i ss k → held_by i ≡ none → NoneHeals cs → (ss ≡ twos cs) × (k ≡ i)
+  pub damaged : (cs : List Call) (i k : Lent) (ss : List Seen) → Made cs i ss k → held_by i ≡ None → NoneHeals cs → (ss ≡ twos cs) × (k ≡ i)
   -- none of this is said of nothing: whatever a store of at least 4,096 bytes held, there is such a list of promises kept, from set up on,
   -- for every list of calls with arguments that C can pass; and so there is from any bytes
   pub fresh_run : (cs : List Call) (i₀ : Lent) → AreBytes i₀ → 4096 ≤ length i₀.store → AllPass cs → FreshRun cs i₀

@@ -19,7 +19,7 @@ bit false = 0
 -- what an answer gives in numbers: an ID, a count, the length of what was written, a pending entry and whether its message lives,
 -- a report; with no integer the first four of a report's
 abbrev pub numbers_of : Answer → List ℕ
-numbers_of (refused n) = []
+numbers_of (refused r) = []
 numbers_of done = []
 numbers_of (given i) = i.ms ∷ (i.seq ∷ [])
 numbers_of (counted n) = n ∷ []

@@ -14,8 +14,8 @@ ghost use Rattle.wallathi.specs.Telling.{code_in, length_in};
 use crate::known::known;
 use crate::telling;
 use id::Id;
-use resp::Replied;
-use resp_read::{Picked, ReplyRead};
+use refusal::Refusal;
+use resp_read::ReplyRead;
 use state::State;
 
 #[unsafe(no_mangle)]
@@ -40,15 +40,15 @@ pub extern "C" fn wallathi_range_reply(
 }
 
 // The length of a reply from a number, or a refusal.
-fn tell_replied(r: Replied, len: &mut u64) -> u32
+fn tell_replied(r: Result<usize, Refusal>, len: &mut u64) -> u32
     ensures { (result ≡ code_in r) × (len.new ≡ length_in r len.old) }
 {
     match r {
-        Replied::Written(n) => {
+        Ok(n) => {
             *len = n as u64;
             0
         }
-        Replied::Refused(n) => n,
+        Err(refusal) => refusal.number(),
     }
 }
 
@@ -82,10 +82,10 @@ pub extern "C" fn wallathi_read_reply(reply: &[u8], kind: &mut u64, number: &mut
     ensures { seen result (kind.new ∷ (number.new ∷ [])) [] ≡ read_seen (kind.old ∷ (number.old ∷ [])) (parse_reply reply.now) }
 {
     match resp_read::read(reply) {
-        ReplyRead::Range(n) => tell_kind(1, n, kind, number),
-        ReplyRead::Integer(n) => tell_kind(2, n, kind, number),
-        ReplyRead::Error(n) => tell_kind(3, n, kind, number),
-        ReplyRead::Bad => 3,
+        Some(ReplyRead::Range(n)) => tell_kind(1, n, kind, number),
+        Some(ReplyRead::Integer(n)) => tell_kind(2, n, kind, number),
+        Some(ReplyRead::Error(n)) => tell_kind(3, n, kind, number),
+        None => 3,
     }
 }
 
@@ -112,8 +112,8 @@ pub extern "C" fn wallathi_reply_message(
     ensures { seen result (id_ms.new ∷ (id_seq.new ∷ (len.new ∷ []))) out.new ≡ place_seen place (id_ms.old ∷ (id_seq.old ∷ (len.old ∷ []))) out.old (parse_reply reply.now) }
 {
     match resp_read::message_at(reply, place, out) {
-        Picked::Message { id, size } => tell_message(id, size, id_ms, id_seq, len),
-        Picked::Nothing => 32,
-        Picked::Refused(n) => n,
+        Ok(Some(picked)) => tell_message(picked.id, picked.size, id_ms, id_seq, len),
+        Ok(None) => 32,
+        Err(refusal) => refusal.number(),
     }
 }

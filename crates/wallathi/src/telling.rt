@@ -11,7 +11,7 @@ pub fn code_of(r: Reply) -> u32
     ensures { result ≡ code_by r }
 {
     match r {
-        Reply::Refused(n) => n,
+        Reply::Refused(refusal) => refusal.number(),
         Reply::Done => 0,
         Reply::Given(_) => 0,
         Reply::Counted(_) => 0,

@@ -1,3 +1,2 @@
-pub mod Exits
 -- the claim about every list of calls
 pub mod Sequence

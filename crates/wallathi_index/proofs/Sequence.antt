@@ -1,7 +1,7 @@
 -- The claim about whole lists of calls, proved. Assumes nothing.
 use mathlib.Core.Bool.{Bool, true, false}
 use mathlib.Core.List.{List, [], ◌∷◌}
-use mathlib.Core.Option.{Option, some, none}
+use Rattle.std.proofs.Common.{Option, Some, None}
 use mathlib.Core.Path.{◌≡◌, refl, sym, ap, ap₂, ◌∙◌, subst}
 use Prim.Native.Nat.{ℕ}
 use native.Mathlib.Omega.{arith}
@@ -68,8 +68,8 @@ total (c ∷ cs) s f =
 
 -- no change, no byte
 kept_bytes : (o : on.Operation) (e : Option (List Entry)) (s : List ℕ) → on.is_change (on.reply_in o e) ≡ false → bytes_after o e s ≡ s
-kept_bytes o none s h = refl
-kept_bytes o (some es) s h = ap (λ (b : Bool). pick b (record_bytes (on.operate o es).after) s) h
+kept_bytes o None s h = refl
+kept_bytes o (Some es) s h = ap (λ (b : Bool). pick b (record_bytes (on.operate o es).after) s) h
 
 refused_keeps : (o : on.Operation) (e : Option (List Entry)) → (on.code_of (on.reply_in o e) ≡ 0 → ⊥) → on.is_change (on.reply_in o e) ≡ false
 refused_keeps o e h = go (on.is_change (on.reply_in o e)) refl
@@ -85,8 +85,8 @@ removing k es t u = (pick t (pick u (record { reply = on.removed 1; after = with
 remove_quiet : (k : List ℕ) (e : Option (List Entry)) (out : ℕ) → (on.code_of (on.reply_in (on.remove k) e) ≡ 0 → out_of (on.reply_in (on.remove k) e) out ≡ 0)
     → on.is_change (on.reply_in (on.remove k) e) ≡ false
 unfolding on.remove_from
-remove_quiet k none out h = refl
-remove_quiet k (some es) out h = go (is_key k) (has k es) h
+remove_quiet k None out h = refl
+remove_quiet k (Some es) out h = go (is_key k) (has k es) h
   where
     go : (t u : Bool) → (on.code_of (removing k es t u) ≡ 0 → out_of (removing k es t u) out ≡ 0) → on.is_change (removing k es t u) ≡ false
     go false u h = refl
@@ -108,7 +108,7 @@ quiet : {cs : List Call} {s u : List ℕ} {seen : List Seen} → Made cs s seen 
 quiet made_none q = refl
 quiet (made_more m r) q = quiet r q.1 ∙ quiet_one m q.0
 
-two : (c : Call) → NoSetUp c → code_seen (seen_by c none) ≡ 2
+two : (c : Call) → NoSetUp c → code_seen (seen_by c None) ≡ 2
 two set_up n = absurd n
 two (put k v) n = refl
 two (remove k o) n = refl
@@ -116,7 +116,7 @@ two (find k o) n = refl
 two (first_at_or_above k out len v) n = refl
 two (last_at_or_below k out len v) n = refl
 
-stays : (c : Call) (s : List ℕ) → NoSetUp c → left_by c none s ≡ s
+stays : (c : Call) (s : List ℕ) → NoSetUp c → left_by c None s ≡ s
 stays set_up s n = absurd n
 stays (put k v) s n = refl
 stays (remove k o) s n = refl
@@ -124,7 +124,7 @@ stays (find k o) s n = refl
 stays (first_at_or_above k out len v) s n = refl
 stays (last_at_or_below k out len v) s n = refl
 
-damaged : {cs : List Call} {s u : List ℕ} {seen : List Seen} → Made cs s seen u → entries_in s ≡ none → NoSetUps cs → (u ≡ s) × AllTwo seen
+damaged : {cs : List Call} {s u : List ℕ} {seen : List Seen} → Made cs s seen u → entries_in s ≡ None → NoSetUps cs → (u ≡ s) × AllTwo seen
 damaged made_none e n = (refl, tt)
 damaged (made_more {c} {cs} {s} {t} {u} {a} {seen} m r) e n =
     let o = once m in

@@ -1,7 +1,6 @@
 -- The claim about whole lists of calls, one for every host that calls the exported functions one after the other on the bytes of one
 -- record: `Made` (Run) is the promise of each of them, threaded. Proved: proofs/Sequence. Assumes nothing.
-use Rattle.std.specs.Prelude.{List, [], ◌∷◌, ◌≡◌, ℕ}
-use Rattle.std.proofs.Math.Option.{none}
+use Rattle.std.specs.Prelude.{List, [], ◌∷◌, ◌≡◌, ℕ, None}
 use Rattle.index_bytes.specs.Held.{entries_in}
 use Rattle.wallathi_index.specs.Run.{Call, set_up, put, remove, find, first_at_or_above, last_at_or_below, Seen, told, gave, showed, seen_all, held_all, left_all, Made, AllFit}
 
@@ -60,6 +59,6 @@ pub record Demands : Type 0 where
   -- lists that only read, or are refused, or remove nothing leave every byte
   pub quiet : (cs : List Call) (s u : List ℕ) (seen : List Seen) → Made cs s seen u → AllQuiet cs seen → u ≡ s
   -- a damaged record answers 2 until a set up, and stays as it is
-  pub damaged : (cs : List Call) (s u : List ℕ) (seen : List Seen) → Made cs s seen u → entries_in s ≡ none → NoSetUps cs → (u ≡ s) × AllTwo seen
+  pub damaged : (cs : List Call) (s u : List ℕ) (seen : List Seen) → Made cs s seen u → entries_in s ≡ None → NoSetUps cs → (u ≡ s) × AllTwo seen
   -- none of this is said of nothing: every list of calls has an outcome, from any bytes
   pub some_run : (cs : List Call) (s : List ℕ) → AllFit cs → Made cs s (seen_all cs (entries_in s)) (left_all cs (entries_in s) s)

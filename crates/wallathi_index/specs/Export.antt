@@ -1,7 +1,6 @@
 -- What a C caller sees of an operation on a record of bytes: the number returned (0 answered, 2, 3 and 18 the refusals, 32 none), the
 -- out-parameters and the output of 16 bytes, written only with 0, and the record's bytes. Assumes nothing.
-use Rattle.std.specs.Prelude.{List, ◌≡◌, ℕ, length}
-use Rattle.std.proofs.Math.Option.{Option, some, none}
+use Rattle.std.specs.Prelude.{List, ◌≡◌, ℕ, length, Option, Some, None}
 use Rattle.octets.specs.Place.{put}
 use Rattle.keys.specs.Entries.{Entry}
 use Rattle.keys.specs.Operation.{Operation, Reply, refused, done, removed, value, found, nothing, code_of, reply_in, entries_after}
@@ -25,25 +24,25 @@ pub record Follows (o : Operation) (e : Option (List Entry)) (s : List ℕ) (cod
 
 -- the neighbours: the entry that is found
 abbrev pub given : Reply → Option Entry
-given (refused n) = none
-given done = none
-given (removed n) = none
-given (value v) = none
-given (found e) = some e
-given nothing = none
+given (refused n) = None
+given done = None
+given (removed n) = None
+given (value v) = None
+given (found e) = Some e
+given nothing = None
 
 -- its key goes to the start of the output, whose other bytes stay; no key is longer than an output
 abbrev pub key_to : Option Entry → List ℕ → List ℕ
-key_to none out = out
-key_to (some e) out = put out 0 e.key
+key_to None out = out
+key_to (Some e) out = put out 0 e.key
 
 abbrev pub length_to : Option Entry → ℕ → ℕ
-length_to none len = len
-length_to (some e) len = length e.key
+length_to None len = len
+length_to (Some e) len = length e.key
 
 abbrev pub value_to : Option Entry → ℕ → ℕ
-value_to none v = v
-value_to (some e) v = e.value
+value_to None v = v
+value_to (Some e) v = e.value
 
 -- entered with the output and the two out-parameters, left with those after
 pub record Tells (r : Reply) (out : List ℕ) (len value code : ℕ) (out' : List ℕ) (len' value' : ℕ) : Type 0 where

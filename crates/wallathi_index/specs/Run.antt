@@ -1,7 +1,6 @@
 -- Lists of calls of the exported functions on the bytes of one record, from any bytes: what a host sees of each call, what the bytes are
 -- in the end, and the relation that the promises of the functions make. Assumes nothing.
-use Rattle.std.specs.Prelude.{List, [], ◌∷◌, ◌≡◌, ℕ, ◌<◌, ◌^◌}
-use Rattle.std.proofs.Math.Option.{Option, some}
+use Rattle.std.specs.Prelude.{List, [], ◌∷◌, ◌≡◌, ℕ, ◌<◌, ◌^◌, Option, Some}
 use Rattle.keys.specs.Entries.{Entry}
 use Rattle.keys.specs.Operation as on
 use Rattle.index_bytes.specs.Held.{entries_in, record_bytes}
@@ -38,7 +37,7 @@ seen_by (last_at_or_below k out len v) e = shows (on.reply_in (on.last_at_or_bel
 
 -- the entries after it
 abbrev pub held_by : Call → Option (List Entry) → Option (List Entry)
-held_by set_up e = some []
+held_by set_up e = Some []
 held_by (put k v) e = on.entries_after (on.put k v) e
 held_by (remove k out) e = on.entries_after (on.remove k) e
 held_by (find k out) e = e
@@ -69,7 +68,7 @@ left_all (c ∷ cs) e s = left_all cs (held_by c e) (left_by c e s)
 
 -- one call that keeps its function's promise: with the bytes s, seen a, left with the bytes t
 pub data Meets : Call → List ℕ → Seen → List ℕ → Type 0 where
-  meets_set_up : {s t : List ℕ} {code : ℕ} → code ≡ 0 → t ≡ record_bytes [] → entries_in t ≡ some [] → Meets set_up s (told code) t
+  meets_set_up : {s t : List ℕ} {code : ℕ} → code ≡ 0 → t ≡ record_bytes [] → entries_in t ≡ Some [] → Meets set_up s (told code) t
   meets_put : {k : List ℕ} {v : ℕ} {s t : List ℕ} {code : ℕ} → Follows (on.put k v) (entries_in s) s code t → Meets (put k v) s (told code) t
   meets_remove : {k : List ℕ} {o p : ℕ} {s t : List ℕ} {code : ℕ} → Follows (on.remove k) (entries_in s) s code t
       → p ≡ out_of (on.reply_in (on.remove k) (entries_in s)) o → Meets (remove k o) s (gave code p) t

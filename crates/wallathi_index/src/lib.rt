@@ -5,15 +5,17 @@
 
 mod telling;
 
-ghost use Rattle.std.specs.Prelude.{◌≡◌, []};
-ghost use Rattle.std.proofs.Math.Option.{some};
+ghost use Rattle.std.specs.Prelude.{◌≡◌, [], Some};
 ghost use Rattle.keys.specs.Operation.{put, remove, find, first_at_or_above, last_at_or_below, code_of, reply_in};
 ghost use Rattle.index_bytes.specs.Held.{record_size, entries_in, record_bytes};
 ghost use Rattle.wallathi_index.specs.Export.{out_of, Follows, Tells};
 
-use telling::{code_of, give, tell};
+use telling::tell;
 
 pub const RECORD_BYTES: usize = 6658;
+
+// No refusal: the key, or a neighbour, is not there.
+const NOT_FOUND: u32 = 32;
 
 // The lent bytes of an index.
 pub type Record = [u8; RECORD_BYTES];
@@ -28,7 +30,7 @@ pub extern "C" fn wallathi_index_record_bytes() -> u64
 
 #[unsafe(no_mangle)]
 pub extern "C" fn wallathi_index_set_up(bytes: &mut Record) -> u32
-    ensures { (result ≡ 0) × ((bytes.new ≡ record_bytes []) × (entries_in bytes.new ≡ some [])) }
+    ensures { (result ≡ 0) × ((bytes.new ≡ record_bytes []) × (entries_in bytes.new ≡ Some [])) }
 {
     index_bytes::empty(bytes);
     0
@@ -38,25 +40,37 @@ pub extern "C" fn wallathi_index_set_up(bytes: &mut Record) -> u32
 pub extern "C" fn wallathi_index_put(bytes: &mut Record, key: &[u8], value: u32) -> u32
     ensures { Follows (put key.now value) (entries_in bytes.old) bytes.old result bytes.new }
 {
-    code_of(index_bytes::put(bytes, key, value))
+    match index_bytes::put(bytes, key, value) {
+        Ok(()) => 0,
+        Err(e) => e.number(),
+    }
 }
 
 #[unsafe(no_mangle)]
 pub extern "C" fn wallathi_index_remove(bytes: &mut Record, key: &[u8], count: &mut u64) -> u32
     ensures { Follows (remove key.now) (entries_in bytes.old) bytes.old result bytes.new × (count.new ≡ out_of (reply_in (remove key.now) (entries_in bytes.old)) count.old) }
 {
-    let a = index_bytes::remove(bytes, key);
-    give(a, count);
-    code_of(a)
+    match index_bytes::remove(bytes, key) {
+        Ok(n) => {
+            *count = n as u64;
+            0
+        }
+        Err(e) => e.number(),
+    }
 }
 
 #[unsafe(no_mangle)]
 pub extern "C" fn wallathi_index_find(bytes: &Record, key: &[u8], value: &mut u64) -> u32
     ensures { (result ≡ code_of (reply_in (find key.now) (entries_in bytes.now))) × (value.new ≡ out_of (reply_in (find key.now) (entries_in bytes.now)) value.old) }
 {
-    let a = index_bytes::find(bytes, key);
-    give(a, value);
-    code_of(a)
+    match index_bytes::find(bytes, key) {
+        Ok(Some(v)) => {
+            *value = v as u64;
+            0
+        }
+        Ok(None) => NOT_FOUND,
+        Err(e) => e.number(),
+    }
 }
 
 // The output has room for every key.

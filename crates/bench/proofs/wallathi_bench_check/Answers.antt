@@ -1,10 +1,12 @@
--- `wallathi_bench_check` meets its contract: in each branch the test says what `is_listpack` answered. Assumes nothing.
-use Rattle.std.proofs.Common.{ℕ, Bool, sym, ap, ◌∙◌}
+-- `wallathi_bench_check` meets its contract: 1 is true as a number. Assumes nothing.
+use Rattle.std.proofs.Common.{◌≡◌, ℕ, Bool, true, false, refl, ap, ◌∙◌}
 use Rattle.octets.specs.Pick.{pick}
 use Rattle.bench.proofs.wallathi_bench_check.Goals as goal
+use mir.Val.{bool_byte}
 
-pub returns-then-is_listpack : goal.returns-then-is_listpack
-returns-then-is_listpack c = ap (λ (t : Bool). pick {A = ℕ} t 1 0) (sym c.if-is_listpack.true ∙ c.is_listpack.ensures)
+as_number : (t : Bool) → bool_byte t ≡ pick {A = ℕ} t 1 0
+as_number true = refl
+as_number false = refl
 
 pub returns : goal.returns
-returns c = ap (λ (t : Bool). pick {A = ℕ} t 1 0) (sym c.if-is_listpack.false ∙ c.is_listpack.ensures)
+returns c = c.from.ensures ∙ ap bool_byte c.is_listpack.ensures ∙ as_number _

@@ -1,8 +1,8 @@
 -- Assumes nothing.
+use Rattle.std.proofs.Common.{ℕ, Option}
 use mathlib.Core.Path.{ap, ◌∙◌}
-use Rattle.decimal.specs.declared.Recognised.{Recognised}
 use Rattle.bench_decimal.specs.Told.{code_of, over}
 use Rattle.bench_decimal.proofs.wallathi_bench_steps.Goals as goal
 
 pub returns : goal.returns
-returns c = let e = c.answer_after.ensures in (c.told.ensures.0 ∙ ap code_of e, c.told.ensures.1 ∙ ap (λ (x : Recognised). over x c.args.pattern.now) e)
+returns c = let e = c.answer_after.ensures in (c.told.ensures.0 ∙ ap code_of e, c.told.ensures.1 ∙ ap (λ (x : Option ℕ). over x c.args.pattern.now) e)

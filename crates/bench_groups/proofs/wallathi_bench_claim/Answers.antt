@@ -3,8 +3,10 @@ use mathlib.Core.Path.{◌≡◌, sym, ap, ◌∙◌}
 use mathlib.Core.Bool.{true}
 use Rattle.octets.specs.Bytes.{Bytes}
 use Rattle.groups.specs.Answer.{SoundRegion}
-use Rattle.groups_change.specs.declared.Claimed.{Claimed}
-use Rattle.groups_change.specs.Number.{claimed_refusal, is_moved}
+use Rattle.std.proofs.Common.{Bool, Result, None}
+use Rattle.std.specs.Result.{result_err}
+use Rattle.refusal.specs.declared.Refusal.{Refusal}
+use Rattle.groups_change.specs.Moved.{is_moved}
 use Rattle.bench_groups.specs.Answer.{sound_in, is_short, claim_number}
 use Rattle.bench_groups.proofs.Answers.{region_sound, short_is, claim_bad, claim_name, claim_by}
 use Rattle.bench_groups.proofs.wallathi_bench_claim.Goals as goal
@@ -31,17 +33,17 @@ returns-then-not-is_short c = claim_name _ _ _ _ _ (sound (goal.at.returns-then-
 pub claim-requires : goal.claim-requires
 claim-requires c = (region (goal.at.claim-requires c).Else-not-is_sound, (short_is _ (short (goal.at.claim-requires c).Else-not-is_short)).0, (short_is _ (short (goal.at.claim-requires c).Else-not-is_short)).1)
 
-pub returns-in-Moved : goal.returns-in-Moved
-returns-in-Moved c =
-    let r = claim_by _ _ _ _ _ (sound (goal.at.returns-in-Moved c).Else-not-is_sound) (short (goal.at.returns-in-Moved c).Else-not-is_short) (claimed_refusal c.claim.result) (is_moved c.claim.result) c.claim.ensures.0 c.claim.ensures.1 in
-    (sym (ap (λ (r : Claimed). claim_number (claimed_refusal r) (is_moved r)) c.in-Moved.is) ∙ r.0, c.claim.ensures.2 ∙ r.1)
+pub returns-in-Ok-true : goal.returns-in-Ok-true
+returns-in-Ok-true c =
+    let r = claim_by _ _ _ _ _ (sound (goal.at.returns-in-Ok-true c).Else-not-is_sound) (short (goal.at.returns-in-Ok-true c).Else-not-is_short) (result_err c.claim.result) (is_moved c.claim.result) c.claim.ensures.0 c.claim.ensures.1 in
+    (sym (ap (λ (r : Result Bool Refusal). claim_number (result_err r) (is_moved r)) c.in-Ok-true.is ∙ ap (claim_number None) c.in-Ok-true.field-0-test) ∙ r.0, c.claim.ensures.2 ∙ r.1)
 
-pub returns-in-NotMoved : goal.returns-in-NotMoved
-returns-in-NotMoved c =
-    let r = claim_by _ _ _ _ _ (sound (goal.at.returns-in-NotMoved c).Else-not-is_sound) (short (goal.at.returns-in-NotMoved c).Else-not-is_short) (claimed_refusal c.claim.result) (is_moved c.claim.result) c.claim.ensures.0 c.claim.ensures.1 in
-    (sym (ap (λ (r : Claimed). claim_number (claimed_refusal r) (is_moved r)) c.in-NotMoved.is) ∙ r.0, c.claim.ensures.2 ∙ r.1)
+pub returns-in-Ok-false : goal.returns-in-Ok-false
+returns-in-Ok-false c =
+    let r = claim_by _ _ _ _ _ (sound (goal.at.returns-in-Ok-false c).Else-not-is_sound) (short (goal.at.returns-in-Ok-false c).Else-not-is_short) (result_err c.claim.result) (is_moved c.claim.result) c.claim.ensures.0 c.claim.ensures.1 in
+    (sym (ap (λ (r : Result Bool Refusal). claim_number (result_err r) (is_moved r)) c.in-Ok-false.is ∙ ap (claim_number None) c.in-Ok-false.field-0-test) ∙ r.0, c.claim.ensures.2 ∙ r.1)
 
-pub returns-in-Refused : goal.returns-in-Refused
-returns-in-Refused c =
-    let r = claim_by _ _ _ _ _ (sound (goal.at.returns-in-Refused c).Else-not-is_sound) (short (goal.at.returns-in-Refused c).Else-not-is_short) (claimed_refusal c.claim.result) (is_moved c.claim.result) c.claim.ensures.0 c.claim.ensures.1 in
-    (sym (ap (λ (r : Claimed). claim_number (claimed_refusal r) (is_moved r)) c.in-Refused.is) ∙ r.0, c.claim.ensures.2 ∙ r.1)
+pub returns-in-Err : goal.returns-in-Err
+returns-in-Err c =
+    let r = claim_by _ _ _ _ _ (sound (goal.at.returns-in-Err c).Else-not-is_sound) (short (goal.at.returns-in-Err c).Else-not-is_short) (result_err c.claim.result) (is_moved c.claim.result) c.claim.ensures.0 c.claim.ensures.1 in
+    (c.number.ensures ∙ sym (ap (λ (r : Result Bool Refusal). claim_number (result_err r) (is_moved r)) c.in-Err.is) ∙ r.0, c.claim.ensures.2 ∙ r.1)

@@ -3,9 +3,10 @@ use mathlib.Core.Path.{◌≡◌, sym, ap, ◌∙◌}
 use mathlib.Core.Bool.{true}
 use Rattle.octets.specs.Bytes.{Bytes}
 use Rattle.group_area.specs.Answer.{SoundArea}
-use Rattle.group_area.specs.declared.Created.{Created}
-use Rattle.group_area.specs.Number.{created_refusal}
-use Rattle.bench_groups.specs.Answer.{area_sound, is_short, number_of}
+use Rattle.std.proofs.Common.{Result}
+use Rattle.std.specs.Result.{result_err}
+use Rattle.refusal.specs.declared.Refusal.{Refusal}
+use Rattle.bench_groups.specs.Answer.{area_sound, is_short, number_or_0}
 use Rattle.bench_groups.proofs.Answers.{area_sound_lem, area_judged, short_is, create_bad, create_name, create_by}
 use Rattle.bench_groups.proofs.wallathi_bench_create.Goals as goal
 use Rattle.bench_groups.proofs.wallathi_bench_create.Goals.{Else-not-is_short, Else-not-judge}
@@ -31,12 +32,12 @@ returns-then-not-is_short c = create_name _ _ _ (sound (goal.at.returns-then-not
 pub create-requires : goal.create-requires
 create-requires c = (area (goal.at.create-requires c).Else-not-judge, (short_is _ (short (goal.at.create-requires c).Else-not-is_short)).0, (short_is _ (short (goal.at.create-requires c).Else-not-is_short)).1)
 
-pub returns-in-Done : goal.returns-in-Done
-returns-in-Done c =
-    let r = create_by _ _ _ (sound (goal.at.returns-in-Done c).Else-not-judge) (short (goal.at.returns-in-Done c).Else-not-is_short) (created_refusal c.create.result) c.create.ensures.0 in
-    (sym (ap (λ (r : Created). number_of (created_refusal r)) c.in-Done.is) ∙ r.0, c.create.ensures.1 ∙ r.1)
+pub returns-in-Ok : goal.returns-in-Ok
+returns-in-Ok c =
+    let r = create_by _ _ _ (sound (goal.at.returns-in-Ok c).Else-not-judge) (short (goal.at.returns-in-Ok c).Else-not-is_short) (result_err c.create.result) c.create.ensures.0 in
+    (sym (ap (λ (r : Result Unit Refusal). number_or_0 (result_err r)) c.in-Ok.is) ∙ r.0, c.create.ensures.1 ∙ r.1)
 
-pub returns-in-Refused : goal.returns-in-Refused
-returns-in-Refused c =
-    let r = create_by _ _ _ (sound (goal.at.returns-in-Refused c).Else-not-judge) (short (goal.at.returns-in-Refused c).Else-not-is_short) (created_refusal c.create.result) c.create.ensures.0 in
-    (sym (ap (λ (r : Created). number_of (created_refusal r)) c.in-Refused.is) ∙ r.0, c.create.ensures.1 ∙ r.1)
+pub returns-in-Err : goal.returns-in-Err
+returns-in-Err c =
+    let r = create_by _ _ _ (sound (goal.at.returns-in-Err c).Else-not-judge) (short (goal.at.returns-in-Err c).Else-not-is_short) (result_err c.create.result) c.create.ensures.0 in
+    (c.number.ensures ∙ sym (ap (λ (r : Result Unit Refusal). number_or_0 (result_err r)) c.in-Err.is) ∙ r.0, c.create.ensures.1 ∙ r.1)

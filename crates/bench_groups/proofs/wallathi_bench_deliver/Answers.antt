@@ -6,9 +6,10 @@ use Rattle.id.specs.declared.Id.{Id}
 use Rattle.id.specs.Id.{id_of, below}
 use Rattle.groups.specs.Parse.{group_in}
 use Rattle.groups.specs.Answer.{SoundRegion}
-use Rattle.groups_change.specs.declared.Delivery.{Delivery}
-use Rattle.groups_change.specs.Number.{delivery_refusal}
-use Rattle.bench_groups.specs.Answer.{sound_in, is_short, number_of}
+use Rattle.std.proofs.Common.{Result}
+use Rattle.std.specs.Result.{result_err}
+use Rattle.refusal.specs.declared.Refusal.{Refusal}
+use Rattle.bench_groups.specs.Answer.{sound_in, is_short, number_or_0}
 use Rattle.bench_groups.proofs.Answers.{region_sound, short_is, deliver_bad, deliver_name, deliver_old, deliver_by}
 use Rattle.bench_groups.proofs.wallathi_bench_deliver.Goals as goal
 use Rattle.bench_groups.proofs.wallathi_bench_deliver.Goals.{Else-not-is_below, Else-not-is_short, Else-not-is_sound}
@@ -47,12 +48,12 @@ returns-then-not-is_below c =
 pub deliver-requires : goal.deliver-requires
 deliver-requires c = (region (goal.at.deliver-requires c).Else-not-is_sound, (short_is _ (short (goal.at.deliver-requires c).Else-not-is_short)).0, (short_is _ (short (goal.at.deliver-requires c).Else-not-is_short)).1, above (goal.at.deliver-requires c).Else-not-is_below)
 
-pub returns-in-Done : goal.returns-in-Done
-returns-in-Done c =
-    let r = deliver_by _ _ _ _ (sound (goal.at.returns-in-Done c).Else-not-is_sound) (short (goal.at.returns-in-Done c).Else-not-is_short) (above (goal.at.returns-in-Done c).Else-not-is_below) (delivery_refusal c.deliver.result) c.deliver.ensures.0 in
-    (sym (ap (λ (r : Delivery). number_of (delivery_refusal r)) c.in-Done.is) ∙ r.0, c.deliver.ensures.1 ∙ r.1)
+pub returns-in-Ok : goal.returns-in-Ok
+returns-in-Ok c =
+    let r = deliver_by _ _ _ _ (sound (goal.at.returns-in-Ok c).Else-not-is_sound) (short (goal.at.returns-in-Ok c).Else-not-is_short) (above (goal.at.returns-in-Ok c).Else-not-is_below) (result_err c.deliver.result) c.deliver.ensures.0 in
+    (sym (ap (λ (r : Result Unit Refusal). number_or_0 (result_err r)) c.in-Ok.is) ∙ r.0, c.deliver.ensures.1 ∙ r.1)
 
-pub returns-in-Refused : goal.returns-in-Refused
-returns-in-Refused c =
-    let r = deliver_by _ _ _ _ (sound (goal.at.returns-in-Refused c).Else-not-is_sound) (short (goal.at.returns-in-Refused c).Else-not-is_short) (above (goal.at.returns-in-Refused c).Else-not-is_below) (delivery_refusal c.deliver.result) c.deliver.ensures.0 in
-    (sym (ap (λ (r : Delivery). number_of (delivery_refusal r)) c.in-Refused.is) ∙ r.0, c.deliver.ensures.1 ∙ r.1)
+pub returns-in-Err : goal.returns-in-Err
+returns-in-Err c =
+    let r = deliver_by _ _ _ _ (sound (goal.at.returns-in-Err c).Else-not-is_sound) (short (goal.at.returns-in-Err c).Else-not-is_short) (above (goal.at.returns-in-Err c).Else-not-is_below) (result_err c.deliver.result) c.deliver.ensures.0 in
+    (c.number.ensures ∙ sym (ap (λ (r : Result Unit Refusal). number_or_0 (result_err r)) c.in-Err.is) ∙ r.0, c.deliver.ensures.1 ∙ r.1)

@@ -3,9 +3,10 @@ use mathlib.Core.Path.{◌≡◌, sym, ap, ◌∙◌}
 use mathlib.Core.Bool.{true}
 use Rattle.octets.specs.Bytes.{Bytes}
 use Rattle.group_area.specs.Answer.{SoundArea}
-use Rattle.group_area.specs.declared.Destroyed.{Destroyed}
-use Rattle.group_area.specs.Number.{destroyed_refusal}
-use Rattle.bench_groups.specs.Answer.{area_sound, number_of}
+use Rattle.std.proofs.Common.{Result}
+use Rattle.std.specs.Result.{result_err}
+use Rattle.refusal.specs.declared.Refusal.{Refusal}
+use Rattle.bench_groups.specs.Answer.{area_sound, number_or_0}
 use Rattle.bench_groups.proofs.Answers.{area_sound_lem, area_judged, destroy_bad, destroy_by}
 use Rattle.bench_groups.proofs.wallathi_bench_destroy.Goals as goal
 use Rattle.bench_groups.proofs.wallathi_bench_destroy.Goals.{Else-not-judge}
@@ -25,12 +26,12 @@ returns-then-not-judge c = destroy_bad _ _ (sym (area_judged _) ∙ sym c.judge.
 pub destroy-requires : goal.destroy-requires
 destroy-requires c = area (goal.at.destroy-requires c).Else-not-judge
 
-pub returns-in-Done : goal.returns-in-Done
-returns-in-Done c =
-    let r = destroy_by _ _ (sound (goal.at.returns-in-Done c).Else-not-judge) (destroyed_refusal c.destroy.result) c.destroy.ensures.0 in
-    (sym (ap (λ (r : Destroyed). number_of (destroyed_refusal r)) c.in-Done.is) ∙ r.0, c.destroy.ensures.1 ∙ r.1)
+pub returns-in-Ok : goal.returns-in-Ok
+returns-in-Ok c =
+    let r = destroy_by _ _ (sound (goal.at.returns-in-Ok c).Else-not-judge) (result_err c.destroy.result) c.destroy.ensures.0 in
+    (sym (ap (λ (r : Result Unit Refusal). number_or_0 (result_err r)) c.in-Ok.is) ∙ r.0, c.destroy.ensures.1 ∙ r.1)
 
-pub returns-in-Absent : goal.returns-in-Absent
-returns-in-Absent c =
-    let r = destroy_by _ _ (sound (goal.at.returns-in-Absent c).Else-not-judge) (destroyed_refusal c.destroy.result) c.destroy.ensures.0 in
-    (sym (ap (λ (r : Destroyed). number_of (destroyed_refusal r)) c.in-Absent.is) ∙ r.0, c.destroy.ensures.1 ∙ r.1)
+pub returns-in-Err : goal.returns-in-Err
+returns-in-Err c =
+    let r = destroy_by _ _ (sound (goal.at.returns-in-Err c).Else-not-judge) (result_err c.destroy.result) c.destroy.ensures.0 in
+    (c.number.ensures ∙ sym (ap (λ (r : Result Unit Refusal). number_or_0 (result_err r)) c.in-Err.is) ∙ r.0, c.destroy.ensures.1 ∙ r.1)

@@ -4,7 +4,7 @@ use Prim.Native.Nat.{◌≤◌}
 use native.Mathlib.Omega.{arith}
 use Rattle.id.specs.Id.{id_of}
 use Rattle.bench_node.specs.Node.{live_of}
-use Rattle.bench_node.proofs.Slots.{live_is, live_slot, deletes_few, deletes_is, deleted_is}
+use Rattle.bench_node.proofs.Slots.{from_is, live_is, live_slot, deletes_few, deletes_is, deleted_is}
 use Rattle.bench_node.proofs.wallathi_bench_delete.Goals as goal
 use Rattle.bench_node.proofs.wallathi_bench_delete.Goals.{Else-live_of-lt2}
 
@@ -21,4 +21,4 @@ pub returns : goal.returns
 returns c =
     let e = c.delete.ensures in
     let h = enough (goal.at.returns c).Else-live_of-lt2 in
-    (c.as_number.ensures ∙ deletes_is _ _ _ h _ (e.0 ∙ live_is _ _ _), e.1 ∙ deleted_is _ _ _ h)
+    (c.from.ensures ∙ from_is _ ∙ deletes_is _ _ _ h _ (e.0 ∙ live_is _ _ _), e.1 ∙ deleted_is _ _ _ h)

@@ -17,11 +17,8 @@ returns-then-not-is_sound c = reads_not _ _ _ _ (sym c.is_sound.ensures ∙ c.if
 pub read_message-requires : goal.read_message-requires
 read_message-requires c = sound_slot _ _ (sound (goal.at.read_message-requires c).Else-not-is_sound)
 
-pub returns-in-Length : goal.returns-in-Length
-returns-in-Length c = reads_is _ _ _ c.args.out.now (sound (goal.at.returns-in-Length c).Else-not-is_sound) _ _ c.read_message.ensures.0 c.in-Length.is _ c.read_message.ensures.1
+pub returns-in-Ok : goal.returns-in-Ok
+returns-in-Ok c = reads_is _ _ _ c.args.out.now (sound (goal.at.returns-in-Ok c).Else-not-is_sound) _ _ c.read_message.ensures.0 c.in-Ok.is _ c.read_message.ensures.1
 
-pub returns-in-Short : goal.returns-in-Short
-returns-in-Short c = reads_is _ _ _ c.args.out.now (sound (goal.at.returns-in-Short c).Else-not-is_sound) _ _ c.read_message.ensures.0 c.in-Short.is _ c.read_message.ensures.1
-
-pub returns-in-Missing : goal.returns-in-Missing
-returns-in-Missing c = reads_is _ _ _ c.args.out.now (sound (goal.at.returns-in-Missing c).Else-not-is_sound) _ _ c.read_message.ensures.0 c.in-Missing.is _ c.read_message.ensures.1
+pub returns-in-Err : goal.returns-in-Err
+returns-in-Err c = reads_is _ _ _ c.args.out.now (sound (goal.at.returns-in-Err c).Else-not-is_sound) _ _ c.read_message.ensures.0 c.in-Err.is _ c.read_message.ensures.1

@@ -7,8 +7,8 @@ use Rattle.radix.specs.Walk.{find_in}
 use Rattle.radix_bytes.specs.Bytes.{pool_in}
 use Rattle.radix_find.proofs.find_from.Given as goal
 
-abbrev pub invariant-loop-left : goal.invariant-loop-left
-invariant-loop-left l = (l.left ≤ 256) × (l.i ≤ length l.k) × (find_in (tree_at l.left (pool_in l.s) l.at) (drop l.i l.k) ≡ find_in (tree_at 256 (pool_in l.s) l.first) l.k)
+abbrev pub invariant-loop-p : goal.invariant-loop-p
+invariant-loop-p l = (l.i ≤ length l.k) × (find_in (tree_at l.left (pool_in l.s) l.at) (drop l.i l.k) ≡ find_in (tree_at 256 (pool_in l.s) l.first) l.k)
 
-abbrev pub decreases-loop-left : goal.decreases-loop-left
-decreases-loop-left l = l.left
+abbrev pub decreases-loop-p : goal.decreases-loop-p
+decreases-loop-p l = l.left

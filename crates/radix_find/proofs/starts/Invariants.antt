@@ -7,7 +7,4 @@ use Rattle.radix.specs.Shape.{starts_with}
 use Rattle.radix_find.proofs.starts.Given as goal
 
 abbrev pub invariant-loop-j : goal.invariant-loop-j
-invariant-loop-j l = (l.j ≤ l.n) × (l.i + l.j ≤ length l.k) × (starts_with (area (l.at + l.j) (l.n - l.j) l.s) (drop (l.i + l.j) l.k) ≡ starts_with (area l.at l.n l.s) (drop l.i l.k))
-
-abbrev pub decreases-loop-j : goal.decreases-loop-j
-decreases-loop-j l = l.n - l.j
+invariant-loop-j l = (l.i + l.j ≤ length l.k) × (starts_with (area (l.at + l.j) (l.n - l.j) l.s) (drop (l.i + l.j) l.k) ≡ starts_with (area l.at l.n l.s) (drop l.i l.k))

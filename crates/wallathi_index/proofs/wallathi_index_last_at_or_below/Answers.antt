@@ -1,10 +1,8 @@
 -- `wallathi_index_last_at_or_below` meets its contract. Assumes nothing.
 use mathlib.Core.Path.{ap, ◌∙◌, subst, subst⁻¹}
-use Prim.Native.Nat.{◌≤◌}
 use borrow.Author.Rules.{rules}
 use Rattle.keys.specs.Operation.{Reply}
-use Rattle.keys.specs.Answer.{neighbour_reply}
-use Rattle.keys.specs.declared.Neighbour.{Neighbour}
+use Rattle.keys.specs.Answer.{neighbour_reply, IsShort}
 use Rattle.index_bytes.specs.Held.{entries_in}
 use Rattle.index_bytes.proofs.Laws.{last_short}
 use Rattle.wallathi_index.specs.Export.{Tells}
@@ -14,7 +12,7 @@ use Rattle.wallathi_index.proofs.wallathi_index_last_at_or_below.Goals as goal
 pub tell-requires : goal.tell-requires
 tell-requires c =
     let x = c.args in
-    (subst⁻¹ (λ (n : Neighbour). n.len ≤ 16) c.last_at_or_below.ensures (last_short x.key.now x.bytes.now), search rules)
+    (subst⁻¹ IsShort c.last_at_or_below.ensures (last_short x.key.now x.bytes.now), search rules)
 
 pub returns : goal.returns
 returns c =

@@ -1,6 +1,6 @@
 -- `walk` meets its contract: what is left is to take the steps of the rest. Assumes nothing.
 use mathlib.Core.Path.{◌≡◌}
-use Prim.Native.Nat.{◌-◌, ◌≤◌}
+use Prim.Native.Nat.{◌≤◌}
 use lib.ListN.{length, drop}
 use Rattle.decimal.specs.Steps.{after}
 use Rattle.decimal.specs.declared.recognition.Prefix.TheVariants.{Empty}
@@ -8,6 +8,3 @@ use Rattle.decimal.proofs.recognition.walk.Given as goal
 
 abbrev pub invariant-loop-i : goal.invariant-loop-i
 invariant-loop-i l = (l.i ≤ length l.s) × (after Empty l.s ≡ after l.state.0 (drop l.i l.s))
-
-abbrev pub decreases-loop-i : goal.decreases-loop-i
-decreases-loop-i l = length l.s - l.i

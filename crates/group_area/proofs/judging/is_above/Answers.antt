@@ -1,5 +1,5 @@
 -- `is_above` meets its contract. Assumes nothing.
-use mathlib.Core.Path.{sym, ap₂, ◌∙◌}
+use mathlib.Core.Path.{sym, ap, ◌∙◌}
 use Prim.Native.Nat.{◌+◌}
 use Rattle.octets.specs.Compare.{comes_before}
 use Rattle.octets.proofs.Laws.{part_is}
@@ -11,4 +11,4 @@ returns c =
     let x = c.args in
     let w = c.wide-n in
     c.comes_before.ensures
-    ∙ ap₂ comes_before (part_is x.from x.size x.s.now) (part_is (x.at + 1) w.result x.s.now ∙ sym (name_at x.at w.result x.s.now w.ensures.0))
+    ∙ ap (comes_before x.above.now) (part_is (x.at + 1) w.result x.s.now ∙ sym (name_at x.at w.result x.s.now w.ensures.0))

@@ -1,5 +1,6 @@
 -- `entries_end` meets its contract, by the law of each answer. Assumes nothing.
 use mathlib.Core.Path.{sym, ◌∙◌}
+use Prim.Native.Nat.{◌-◌}
 use native.Mathlib.Omega.{arith}
 use Rattle.group_body.proofs.Tested.{entries_short, entries_many, entries_size, entries_last}
 use Rattle.group_body.proofs.checking.entries_end.Goals as goal

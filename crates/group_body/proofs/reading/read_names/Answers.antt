@@ -13,20 +13,23 @@ use Rattle.groups.proofs.Laws.{length_padded}
 use Rattle.group_body.proofs.reading.read_names.Goals as goal
 use Rattle.group_body.proofs.reading.read_names.Goals.{After-wide}
 
-turn : (c : After-wide) → NameTurn c.args.s.now c.loop-left.left c.loop-left.i (1 + c.wide.result)
+turn : (c : After-wide) → NameTurn c.args.s.now (c.args.count - c.loop.counter) c.loop.i (1 + c.wide.result)
 turn c =
     let s = c.args.s.now in
-    let l = c.loop-left in
-    name_turn s l.left l.i (1 + c.wide.result) (omega arith) (omega (arith, c.wide.ensures.0)) l.invariant.0 l.invariant.3
+    let l = c.loop in
+    name_turn s (c.args.count - l.counter) l.i (1 + c.wide.result) (omega arith) (omega (arith, c.wide.ensures.0)) l.invariant.0 l.invariant.3
 
-pub loop-left-init : goal.loop-left-init
-loop-left-init c = let p = c.requires in (p.2, omega arith, refl, p.3, refl, refl)
+pub loop-init : goal.loop-init
+loop-init c =
+    let p = c.requires in
+    let none : c.args.count - 0 ≡ c.args.count = omega arith in
+    rw none (p.2, omega arith, refl, p.3, refl, refl)
 
 pub bounds-s-i : goal.bounds-s-i
 bounds-s-i c =
     let s = c.args.s.now in
-    let l = c.loop-left in
-    omega (arith, (name_turn s l.left l.i (1 + get_or s l.i 0) (omega arith) refl l.invariant.0 l.invariant.3).within)
+    let l = c.loop in
+    omega (arith, (name_turn s (c.args.count - l.counter) l.i (1 + get_or s l.i 0) (omega arith) refl l.invariant.0 l.invariant.3).within)
 
 pub wide-requires : goal.wide-requires
 wide-requires c = search
@@ -39,7 +42,7 @@ slice_bounds-copy_padded-end c = omega (arith, (turn (goal.at.slice_bounds-copy_
 
 pub copy_padded-requires : goal.copy_padded-requires
 copy_padded-requires c =
-    let l = c.loop-left in
+    let l = c.loop in
     let s = c.args.s.now in
     let n : ℕ = 1 + c.wide.result in
     let w = turn (goal.at.copy_padded-requires c).After-wide in
@@ -47,20 +50,22 @@ copy_padded-requires c =
     let p = c.requires in
     (omega (arith, q, w.few_bytes), omega (arith, l.invariant.1, l.invariant.2, p.0, p.1))
 
-pub overflow_add-i-in-loop-left : goal.overflow_add-i-in-loop-left
-overflow_add-i-in-loop-left c = omega (arith, (turn (goal.at.overflow_add-i-in-loop-left c).After-wide).within)
+pub overflow_add-i-in-loop : goal.overflow_add-i-in-loop
+overflow_add-i-in-loop c = omega (arith, (turn (goal.at.overflow_add-i-in-loop c).After-wide).within)
 
-pub loop-left-preserved : goal.loop-left-preserved
-loop-left-preserved c =
-    let l = c.loop-left in
+pub loop-preserved : goal.loop-preserved
+loop-preserved c =
+    let l = c.loop in
+    let turns : c.args.count - (l.counter + 1) ≡ c.args.count - l.counter - 1 = omega arith in
     let s = c.args.s.now in
     let n : ℕ = 1 + c.wide.result in
-    let w = turn (goal.at.loop-left-preserved c).After-wide in
+    let w = turn (goal.at.loop-preserved c).After-wide in
     let a : List ℕ = padded 17 (area l.i n s) in
-    let r : List ℕ = all_name_fields (names_at (l.left - 1) (drop (l.i + n) s)) in
+    let r : List ℕ = all_name_fields (names_at ((c.args.count - l.counter) - 1) (drop (l.i + n) s)) in
     let k : length a ≡ 17 = length_padded 17 (area l.i n s) (omega (arith, w.size, w.few_bytes)) in
     let e : c.copy_padded.new.d ≡ put l.region l.to a =
-    c.copy_padded.ensures ∙ ap (λ (x : List ℕ). put l.region l.to (padded 17 x)) (part_is l.i n s) in (
+    c.copy_padded.ensures ∙ ap (λ (x : List ℕ). put l.region l.to (padded 17 x)) (part_is l.i n s) in
+    rw turns (
       w.within,
       omega (arith, l.invariant.1),
       c.copy_padded.auto.d ∙ l.invariant.2,
@@ -74,24 +79,24 @@ loop-left-preserved c =
     )
 
 pub overflow_sub-to : goal.overflow_sub-to
-overflow_sub-to c = omega (arith, c.loop-left.invariant.1, c.requires.1)
+overflow_sub-to c = omega (arith, c.loop.invariant.1, c.requires.1)
 
 pub zero-requires : goal.zero-requires
-zero-requires c = let l = c.loop-left in omega (arith, l.invariant.1, l.invariant.2, c.requires.0, c.requires.1)
+zero-requires c = let l = c.loop in omega (arith, l.invariant.1, l.invariant.2, c.requires.0, c.requires.1)
 
 pub shape_of-region : goal.shape_of-region
-shape_of-region c = c.zero.auto.d ∙ c.loop-left.invariant.2
+shape_of-region c = c.zero.auto.d ∙ c.loop.invariant.2
 
 pub returns : goal.returns
 returns c =
     let s = c.args.s.now in
     let d = c.args.region.now in
-    let l = c.loop-left in
+    let l = c.loop in
     let f : List ℕ = all_name_fields (names_at c.args.count (drop c.args.at s)) in
     let e : l.region ≡ put d 34 f =
-    sym (put_none l.region l.to) ∙ ap (put l.region l.to) (sym (no_fields l.left (drop l.i s) (omega arith))) ∙ l.invariant.5 in
+    sym (put_none l.region l.to) ∙ ap (put l.region l.to) (sym (no_fields (c.args.count - l.counter) (drop l.i s) (omega arith))) ∙ l.invariant.5 in
     let k : length f ≡ c.args.count * 17 = fields_size c.args.count (drop c.args.at s) c.requires.3 in (
-      omega (arith, l.invariant.4, ap length (no_names l.left (drop l.i s) (omega arith))),
+      omega (arith, l.invariant.4, ap length (no_names (c.args.count - l.counter) (drop l.i s) (omega arith))),
       c.zero.ensures
           ∙ ap (λ (y : List ℕ). put y l.to (zeros (306 - l.to))) e
           ∙ fields_padded d f l.to (omega (arith, l.invariant.1, k)) (omega (arith, c.requires.0)),

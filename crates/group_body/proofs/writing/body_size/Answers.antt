@@ -1,4 +1,5 @@
 -- `body_size` meets its contract: the sizes of the parts add up. Assumes nothing.
+use Prim.Native.Nat.{◌-◌}
 use native.Mathlib.Omega.{arith}
 use Rattle.groups.specs.Parse.{group_in}
 use Rattle.group_body.proofs.Outward.{body_of_lem, length_body}

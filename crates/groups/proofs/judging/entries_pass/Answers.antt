@@ -1,5 +1,6 @@
 -- `entries_pass` meets its contract, by the law of each answer. Assumes nothing.
 use mathlib.Core.Path.{◌≡◌, sym, ◌∙◌}
+use Prim.Native.Nat.{◌-◌}
 use native.Mathlib.Omega.{arith}
 use Rattle.groups.specs.Parse.{delivered_in}
 use Rattle.groups.proofs.Verdicts.{entries_many, entries_refused, entries_rest}

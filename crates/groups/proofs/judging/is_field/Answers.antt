@@ -1,5 +1,6 @@
 -- `is_field` meets its contract, by the law of each answer. Assumes nothing.
 use mathlib.Core.Path.{sym, ◌∙◌}
+use Prim.Native.Nat.{◌-◌}
 use native.Mathlib.Omega.{arith}
 use Rattle.groups.proofs.Turns.{field_empty, field_long, field_rest}
 use Rattle.groups.proofs.judging.is_field.Goals as goal

@@ -1,6 +1,7 @@
 -- `is_region` meets its contract, by the law of each answer. Assumes nothing.
 use mathlib.Core.Path.{◌≡◌, sym, ap, ◌∙◌}
 use mathlib.Core.Bool.{Bool, true}
+use Prim.Native.Nat.{◌-◌}
 use native.Mathlib.Omega.{arith}
 use Rattle.octets.specs.Pick.{both}
 use Rattle.groups.specs.Group.{pending_up_to}

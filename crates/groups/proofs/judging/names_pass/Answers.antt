@@ -1,5 +1,6 @@
 -- `names_pass` meets its contract, by the law of each answer. Assumes nothing.
 use mathlib.Core.Path.{sym, ◌∙◌}
+use Prim.Native.Nat.{◌-◌}
 use native.Mathlib.Omega.{arith}
 use Rattle.groups.proofs.Verdicts.{names_many, names_bad, names_rest}
 use Rattle.groups.proofs.judging.names_pass.Goals as goal

@@ -1,5 +1,6 @@
 -- `consumer_count` meets its contract. Assumes nothing.
 use mathlib.Core.Path.{sym, ◌∙◌}
+use Prim.Native.Nat.{◌-◌}
 use native.Mathlib.Omega.{arith}
 use Rattle.groups.proofs.Verdicts.{sound_tested}
 use Rattle.groups.proofs.Searched.{consumers_counted}

@@ -1,4 +1,5 @@
 -- `delivered` meets its contract: the group has the ID that is read. Assumes nothing.
+use Prim.Native.Nat.{◌-◌}
 use native.Mathlib.Omega.{arith}
 use Rattle.groups.specs.Parse.{delivered_in, group_in}
 use Rattle.groups.proofs.Verdicts.{sound_tested}

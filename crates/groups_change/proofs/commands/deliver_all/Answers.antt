@@ -57,7 +57,7 @@ loop-j-preserved c =
       c.write_row.auto.region ∙ l.invariant.0,
       ap (λ (s : List ℕ). rows_put m a.time s (n + (l.j + 1)) (ids_from a.k a.ids.now (l.j + 1)))
           (c.write_row.ensures ∙ ap (λ (i : Id). row_put m a.time l.region (n + l.j) i) c.read_id.ensures)
-          ∙ rows_next m a.time l.region n a.k a.ids.now l.j c.loop-j-test.true
+          ∙ rows_next m a.time l.region n a.k a.ids.now l.j (omega arith)
           ∙ l.invariant.1,
     )
 

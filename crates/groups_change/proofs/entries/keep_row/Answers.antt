@@ -1,5 +1,6 @@
 -- `keep_row` meets its contract, by the law of each answer. Assumes nothing.
 use mathlib.Core.Path.{sym, ap, ◌∙◌}
+use Prim.Native.Nat.{◌-◌}
 use native.Mathlib.Omega.{arith}
 use lib.ListN.{length}
 use Rattle.octets.specs.Place.{put}

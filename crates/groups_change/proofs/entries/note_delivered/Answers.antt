@@ -1,7 +1,7 @@
 -- `note_delivered` meets its contract: one put after the other. Assumes nothing.
 use mathlib.Core.Path.{ap, ◌∙◌}
 use mathlib.Core.List.{List}
-use Prim.Native.Nat.{ℕ}
+use Prim.Native.Nat.{ℕ, ◌-◌}
 use Rattle.octets.specs.Place.{put}
 use Rattle.id.specs.Bytes.{id_bytes}
 use Rattle.groups_change.proofs.entries.note_delivered.Goals as goal

@@ -1,8 +1,7 @@
 -- `find` meets its contract. Assumes nothing.
-use mathlib.Core.Path.{sym, ◌∙◌}
+use mathlib.Core.Path.{refl, sym, ◌∙◌}
 use native.Mathlib.Omega.{arith}
 use Rattle.keys.specs.Operation.{find}
-use Rattle.radix.specs.Answer.{lookup_of}
 use Rattle.index_bytes.proofs.Steps.{judged_2, judged_sound, sound_root, find_3, find_is}
 use Rattle.index_bytes.proofs.look.find.Goals as goal
 
@@ -16,4 +15,4 @@ pub child_at-first-requires : goal.child_at-first-requires
 child_at-first-requires c = let x = c.args in (c.requires, omega (arith, sound_root x.bytes.now (judged_sound x.bytes.now c.requires c.is_sound.result c.is_sound.ensures (c.if-not-is_sound.false)), c.root_of-root.ensures.0))
 
 pub returns : goal.returns
-returns c = let x = c.args in find_is x.bytes.now x.key.now (judged_sound x.bytes.now c.requires c.is_sound.result c.is_sound.ensures (c.if-not-is_sound.false)) c.root_of-root.result c.child_at-first.result _ (lookup_of c.find_from.result) (sym c.is_key.ensures ∙ c.if-not-is_key.false) c.root_of-root.ensures.0 c.child_at-first.ensures.0 c.answer_of.ensures c.find_from.ensures
+returns c = let x = c.args in find_is x.bytes.now x.key.now (judged_sound x.bytes.now c.requires c.is_sound.result c.is_sound.ensures (c.if-not-is_sound.false)) c.root_of-root.result c.child_at-first.result _ (c.find_from.result) (sym c.is_key.ensures ∙ c.if-not-is_key.false) c.root_of-root.ensures.0 c.child_at-first.ensures.0 refl c.find_from.ensures

@@ -1,12 +1,12 @@
 -- `first_at_or_above` meets its contract. Assumes nothing.
-use mathlib.Core.Path.{ap, ◌∙◌}
+use mathlib.Core.Path.{ap}
 use Rattle.keys.specs.Operation.{first_at_or_above}
 use Rattle.keys.specs.Answer.{neighbour_of}
 use Rattle.index_bytes.proofs.Steps.{judged_2, judged_sound}
 use Rattle.index_bytes.proofs.look.first_at_or_above.Goals as goal
 
 pub returns-then-not-is_sound : goal.returns-then-not-is_sound
-returns-then-not-is_sound c = let x = c.args in c.damaged.ensures ∙ ap neighbour_of (judged_2 x.bytes.now c.requires c.is_sound.result c.is_sound.ensures (first_at_or_above x.key.now) (c.if-not-is_sound.true))
+returns-then-not-is_sound c = let x = c.args in ap neighbour_of (judged_2 x.bytes.now c.requires c.is_sound.result c.is_sound.ensures (first_at_or_above x.key.now) (c.if-not-is_sound.true))
 
 pub first_at_or_above_sound-requires : goal.first_at_or_above_sound-requires
 first_at_or_above_sound-requires c = let x = c.args in (c.requires, judged_sound x.bytes.now c.requires c.is_sound.result c.is_sound.ensures (c.if-not-is_sound.false))

@@ -1,6 +1,6 @@
 -- `first_at_or_above_sound` meets its contract. Assumes nothing.
 use mathlib.Core.List.{List}
-use mathlib.Core.Option.{Option}
+use Rattle.std.proofs.Common.{Option}
 use mathlib.Core.Path.{sym, ap, ◌∙◌, subst}
 use Rattle.keys.specs.Entries.{Entry}
 use Rattle.keys.specs.Operation.{first_at_or_above, reply_in}

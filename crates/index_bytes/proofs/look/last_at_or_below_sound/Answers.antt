@@ -1,6 +1,6 @@
 -- `last_at_or_below_sound` meets its contract. Assumes nothing.
 use mathlib.Core.List.{List}
-use mathlib.Core.Option.{Option}
+use Rattle.std.proofs.Common.{Option}
 use mathlib.Core.Path.{sym, ap, ◌∙◌, subst}
 use Rattle.keys.specs.Entries.{Entry}
 use Rattle.keys.specs.Operation.{last_at_or_below, reply_in}

@@ -5,7 +5,7 @@ use Rattle.listpack.proofs.Leaves.{text_other, text_open, text_last}
 use Rattle.listpack.proofs.Sound.{back_in}
 use Prim.Native.Nat.{◌+◌}
 use Rattle.octets.proofs.Laws.{part_is}
-use Rattle.octets.specs.Maybe.{is_none}
+use Rattle.std.proofs.Common.{is_none}
 use Rattle.decimal.specs.Integer.{pattern_of}
 use Rattle.listpack.proofs.read.text_stands.Goals as goal
 

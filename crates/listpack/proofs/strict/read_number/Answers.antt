@@ -1,8 +1,7 @@
 -- Assumes nothing.
 use mathlib.Core.Path.{sym, ap, ◌∙◌}
 use native.Mathlib.Omega.{arith}
-use Rattle.listpack.specs.AtPlace.{leading_of}
-use Rattle.listpack.specs.declared.strict.Leading.TheVariants.{Numeral}
+use Rattle.listpack.specs.AtPlace.{leading_of, numeral}
 use Rattle.listpack.proofs.Leaves.{read_none}
 use Rattle.listpack.proofs.AtPlace.{tiny_is, tiny_bad, number_none, number_some}
 use Rattle.listpack.proofs.strict.read_number.Goals as goal
@@ -20,4 +19,4 @@ pub returns-then-p-eq0 : goal.returns-then-p-eq0
 returns-then-p-eq0 c = sym (number_none _ _ (omega arith) c.wide-b.ensures.0 (omega arith) (sym c.long_integer-p.ensures ∙ c.if-p-eq0.true))
 
 pub returns : goal.returns
-returns c = ap (Numeral c.long_integer-p.result) c.long_size.ensures ∙ sym (number_some _ _ (omega arith) c.wide-b.ensures.0 (omega arith) _ c.long_integer-p.ensures c.if-p-eq0.false)
+returns c = ap (numeral c.long_integer-p.result) c.long_size.ensures ∙ sym (number_some _ _ (omega arith) c.wide-b.ensures.0 (omega arith) _ c.long_integer-p.ensures c.if-p-eq0.false)

@@ -3,7 +3,7 @@ use mathlib.Core.Path.{◌≡◌, sym, ap, ◌∙◌}
 use Prim.Native.Nat.{◌+◌, ◌-◌}
 use native.Mathlib.Omega.{arith}
 use lib.ListN.{take, drop}
-use Rattle.octets.specs.Maybe.{is_none}
+use Rattle.std.proofs.Common.{is_none}
 use Rattle.octets.specs.Place.{area}
 use Rattle.octets.proofs.Laws.{part_area}
 use Rattle.decimal.specs.Integer.{pattern_of}

@@ -1,12 +1,9 @@
 -- The invariant: what is counted, and what is left. Assumes nothing.
 use mathlib.Core.Path.{◌≡◌}
-use Prim.Native.Nat.{◌+◌, ◌*◌, ◌≤◌}
+use Prim.Native.Nat.{◌+◌, ◌-◌, ◌*◌, ◌≤◌}
 use Rattle.listpack.specs.Known.{ElementsAt}
 use Rattle.node_reply.specs.Sizes.{strings_size}
 use Rattle.node_reply.proofs.strings.strings_size.Given as goal
 
-abbrev pub invariant-loop-left : goal.invariant-loop-left
-invariant-loop-left l = (ElementsAt l.left l.s l.to) × (l.size + strings_size l.left l.s l.to ≡ strings_size l.n l.s l.at) × (l.size + 4120 * l.left ≤ 4120 * l.n)
-
-abbrev pub decreases-loop-left : goal.decreases-loop-left
-decreases-loop-left l = l.left
+abbrev pub invariant-loop : goal.invariant-loop
+invariant-loop l = (ElementsAt (l.n - l.counter) l.s l.to) × (l.size + strings_size (l.n - l.counter) l.s l.to ≡ strings_size l.n l.s l.at) × (l.size + 4120 * (l.n - l.counter) ≤ 4120 * l.n)

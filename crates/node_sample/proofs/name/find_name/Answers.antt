@@ -12,19 +12,19 @@ pub loop-k-init : goal.loop-k-init
 loop-k-init c = finding_start _ _ _ _ c.requires
 
 pub known_is-requires : goal.known_is-requires
-known_is-requires c = finding_there c.loop-k.invariant c.loop-k-test.true
+known_is-requires c = finding_there c.loop-k.invariant (omega arith)
 
 pub returns-then-known_is : goal.returns-then-known_is
-returns-then-known_is c = finding_found c.loop-k.invariant c.loop-k-test.true (sym c.known_is.ensures ∙ c.if-known_is.true)
+returns-then-known_is c = finding_found c.loop-k.invariant (omega arith) (sym c.known_is.ensures ∙ c.if-known_is.true)
 
 pub known_size-to-requires : goal.known_size-to-requires
-known_size-to-requires c = finding_there c.loop-k.invariant c.loop-k-test.true
+known_size-to-requires c = finding_there c.loop-k.invariant (omega arith)
 
 pub overflow_add-to : goal.overflow_add-to
-overflow_add-to c = omega (arith, c.known_size-to.ensures, size_there _ _ (bytes (goal.at.overflow_add-to c).After-shared_slice_known-1) (finding_there c.loop-k.invariant c.loop-k-test.true))
+overflow_add-to c = omega (arith, c.known_size-to.ensures, size_there _ _ (bytes (goal.at.overflow_add-to c).After-shared_slice_known-1) (finding_there c.loop-k.invariant (omega arith)))
 
 pub loop-k-preserved : goal.loop-k-preserved
-loop-k-preserved c = finding_turn c.loop-k.invariant c.loop-k-test.true _ c.known_size-to.ensures (sym c.known_is.ensures ∙ c.if-known_is.false)
+loop-k-preserved c = finding_turn c.loop-k.invariant (omega arith) _ c.known_size-to.ensures (sym c.known_is.ensures ∙ c.if-known_is.false)
 
 pub returns : goal.returns
-returns c = finding_end c.loop-k.invariant (omega arith)
+returns c = omega (arith, finding_end c.loop-k.invariant (omega arith))

@@ -7,6 +7,3 @@ use Rattle.octets.proofs.number.read_be.Given as goal
 
 abbrev pub invariant-loop-i : goal.invariant-loop-i
 invariant-loop-i l = (l.i ≤ l.width) × (be_from l.v (area (l.at + l.i) (l.width - l.i) l.s) ≡ be_value (area l.at l.width l.s)) × (l.v < 2 ^ (8 * l.i))
-
-abbrev pub decreases-loop-i : goal.decreases-loop-i
-decreases-loop-i l = l.width - l.i

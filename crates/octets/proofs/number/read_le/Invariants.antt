@@ -7,6 +7,3 @@ use Rattle.octets.proofs.number.read_le.Given as goal
 
 abbrev pub invariant-loop-k : goal.invariant-loop-k
 invariant-loop-k l = (l.k ≤ l.width) × (l.v ≡ le_value (area (l.at + l.k) (l.width - l.k) l.s)) × (l.v < 2 ^ (8 * (l.width - l.k)))
-
-abbrev pub decreases-loop-k : goal.decreases-loop-k
-decreases-loop-k l = l.k

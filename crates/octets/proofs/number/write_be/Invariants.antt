@@ -8,6 +8,3 @@ use Rattle.octets.proofs.number.write_be.Given as goal
 
 abbrev pub invariant-loop-k : goal.invariant-loop-k
 invariant-loop-k l = (l.k ≤ l.width) × (length l.d ≡ length l.initial.d) × (put l.initial.d l.at (be l.width l.v) ≡ put l.d l.at (be l.k l.x))
-
-abbrev pub decreases-loop-k : goal.decreases-loop-k
-decreases-loop-k l = l.k

@@ -8,6 +8,3 @@ use Rattle.octets.proofs.number.write_le.Given as goal
 
 abbrev pub invariant-loop-i : goal.invariant-loop-i
 invariant-loop-i l = (l.i ≤ l.width) × (length l.d ≡ length l.initial.d) × (put l.initial.d l.at (le l.width l.v) ≡ put l.d (l.at + l.i) (le (l.width - l.i) l.x))
-
-abbrev pub decreases-loop-i : goal.decreases-loop-i
-decreases-loop-i l = l.width - l.i

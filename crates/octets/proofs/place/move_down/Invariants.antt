@@ -7,6 +7,3 @@ use Rattle.octets.proofs.place.move_down.Given as goal
 
 abbrev pub invariant-loop-i : goal.invariant-loop-i
 invariant-loop-i l = (length l.s ≡ length l.initial.s) × (put l.initial.s l.to (area l.from l.n l.initial.s) ≡ put l.s (l.to + l.i) (area (l.from + l.i) (l.n - l.i) l.s))
-
-abbrev pub decreases-loop-i : goal.decreases-loop-i
-decreases-loop-i l = l.n - l.i

@@ -7,6 +7,3 @@ use Rattle.octets.proofs.place.move_up.Given as goal
 
 abbrev pub invariant-loop-k : goal.invariant-loop-k
 invariant-loop-k l = (l.k ≤ l.n) × (length l.s ≡ length l.initial.s) × (put l.initial.s l.to (area l.from l.n l.initial.s) ≡ put l.s l.to (area l.from l.k l.s))
-
-abbrev pub decreases-loop-k : goal.decreases-loop-k
-decreases-loop-k l = l.k

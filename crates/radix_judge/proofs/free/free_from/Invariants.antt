@@ -1,12 +1,9 @@
 -- `free_from` meets its contract. Assumes nothing.
 use mathlib.Core.Path.{◌≡◌}
-use Prim.Native.Nat.{◌-◌, ◌≤◌}
+use Prim.Native.Nat.{◌-◌}
 use Rattle.radix_bytes.specs.Bytes.{pool_in}
 use Rattle.radix_judge.specs.Visit.{are_free}
 use Rattle.radix_judge.proofs.free.free_from.Given as goal
 
 abbrev pub invariant-loop-p : goal.invariant-loop-p
-invariant-loop-p l = (l.p ≤ 256) × (are_free (pool_in l.s) l.marks l.p (256 - l.p) ≡ are_free (pool_in l.s) l.marks l.from (256 - l.from))
-
-abbrev pub decreases-loop-p : goal.decreases-loop-p
-decreases-loop-p l = 256 - l.p
+invariant-loop-p l = are_free (pool_in l.s) l.marks l.p (256 - l.p) ≡ are_free (pool_in l.s) l.marks l.from (256 - l.from)

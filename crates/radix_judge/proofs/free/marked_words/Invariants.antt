@@ -1,12 +1,9 @@
 -- `marked_words` meets its contract. Assumes nothing.
 use mathlib.Core.Path.{◌≡◌}
-use Prim.Native.Nat.{◌-◌, ◌≤◌}
+use Prim.Native.Nat.{◌*◌, ◌-◌}
 use Rattle.radix.specs.Record.{Nodes}
 use Rattle.radix_judge.specs.Visit.{are_free}
 use Rattle.radix_judge.proofs.free.marked_words.Given as goal
 
-abbrev pub invariant-loop-p : goal.invariant-loop-p
-invariant-loop-p l = (l.p ≤ 256) × ((x : Nodes) → are_free x l.marks l.p (256 - l.p) ≡ are_free x l.marks 0 256)
-
-abbrev pub decreases-loop-p : goal.decreases-loop-p
-decreases-loop-p l = 256 - l.p
+abbrev pub invariant-loop-w : goal.invariant-loop-w
+invariant-loop-w l = (x : Nodes) → are_free x l.marks (8 * l.w) (256 - 8 * l.w) ≡ are_free x l.marks 0 256

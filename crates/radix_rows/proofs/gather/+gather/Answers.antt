@@ -2,23 +2,22 @@
 use mathlib.Core.Bool.{true}
 use mathlib.Core.Path.{◌≡◌, refl, sym, ap, ◌∙◌, subst}
 use mathlib.Core.List.{List, ◌++◌}
-use mathlib.Core.Option.{some}
+use Rattle.std.proofs.Common.{Some, Option}
 use Prim.Native.Nat.{ℕ, ◌+◌, ◌*◌, ◌-◌, ◌<◌, ◌≤◌}
 use native.Mathlib.Omega.{arith}
 use lib.ListN.{length, take}
 use lib.Seq.{length-take-le}
 use Rattle.octets.specs.Place.{area}
-use Rattle.radix.specs.declared.Gathered.{Gathered}
-use Rattle.radix.specs.declared.Gathered.TheVariants.{Rows}
+use Rattle.radix.specs.Gathering.{with_own}
 use Rattle.radix.specs.Answer.{rows_of, Room, Within}
-use Rattle.radix.specs.Record.{leads_on}
+use Rattle.radix.specs.Record.{leads_on, value_of}
 use Rattle.radix_bytes.specs.Bytes.{pool_in}
 use Rattle.radix_bytes.proofs.Laws.{label_size}
-use Rattle.keys.specs.Table.{columns, rows_from}
+use Rattle.keys.specs.Table.{tabled}
 use Rattle.radix.proofs.Laws.{leads_to, gather_nil, gather_deep, gather_full, gather_below, gather_later}
 use Rattle.radix_rows.proofs.Paths.{take_less, leads_none}
 use Rattle.radix_rows.proofs.gather.+gather.Goals as goal
-use Rattle.radix_rows.proofs.gather.+gather.Goals.{In-loop-p, After-extend, In-Rows, In-Rows-gather}
+use Rattle.radix_rows.proofs.gather.+gather.Goals.{In-loop-p, After-extend, After-with_own, In_ok-with_own, In_ok-gather}
 
 -- the loop is at a node, to which the link leads
 on : {t : ℕ} → (c : In-loop-p t) → leads_on c.loop-p.rest c.loop-p.at ≡ true
@@ -43,85 +42,74 @@ here c =
 path_long : {t : ℕ} → (c : After-extend t) → length c.extend.new.path ≡ 16
 path_long c = c.extend.auto.path ∙ c.loop-p.invariant.1.1.0 ∙ c.requires.1.1.1
 
+own_is : {t : ℕ} → (c : After-with_own t) → let x = c.args in
+    rows_of c.with_own.result c.with_own.new.t ≡ with_own (take (x.d + c.label_len-m.result) c.extend.new.path) (value_of (pool_in x.s.now) (c.loop-p.at - 1)) (tabled c.loop-p.t)
+own_is c =
+    let n = c.args.d + c.label_len-m.result in
+    let z : n - 0 ≡ n = omega arith in
+    c.with_own.ensures.0 ∙ ap (λ (j : ℕ). with_own (take j c.extend.new.path) (value_of (pool_in c.args.s.now) (c.loop-p.at - 1)) (tabled c.loop-p.t)) z
+
 -- the rows with the node's own
-own_room : {t : ℕ} → (c : In-Rows t) → Room c.in-Rows.e c.with_own.new.rows c.with_own.new.vals c.with_own.new.keys
-own_room c =
-    let u = columns c.with_own.new.rows c.with_own.new.vals c.with_own.new.keys in
-    let within : Within (Rows c.in-Rows.e) u = subst (λ (r : Gathered). Within r u) c.in-Rows.is c.with_own.ensures.1 in
-    let o = c.loop-p.invariant.0 in
-    record {
-      rows = within.0;
-      len_long = c.with_own.auto.rows ∙ o.len_long;
-      val_long = c.with_own.auto.vals ∙ o.val_long;
-      key_long = c.with_own.auto.keys ∙ o.key_long;
-      exact = within.1;
-    }
+own_room : {t : ℕ} → (c : In_ok-with_own t) → Room c.with_own.new.t
+own_room c = subst (λ (r : Option (Unit {0})). Within r c.with_own.new.t) c.in_ok-with_own.was c.with_own.ensures.1
 
 -- the rows with those below the node
-below_room : {t : ℕ} → (c : In-Rows-gather t) → Room c.in-Rows-gather.f c.gather.new.rows c.gather.new.vals c.gather.new.keys
-below_room c =
-    let u = columns c.gather.new.rows c.gather.new.vals c.gather.new.keys in
-    let within : Within (Rows c.in-Rows-gather.f) u = subst (λ (r : Gathered). Within r u) c.in-Rows-gather.is c.gather.ensures.1.0 in
-    let o = c.loop-p.invariant.0 in
-    record {
-      rows = within.0;
-      len_long = c.gather.auto.rows ∙ c.with_own.auto.rows ∙ o.len_long;
-      val_long = c.gather.auto.vals ∙ c.with_own.auto.vals ∙ o.val_long;
-      key_long = c.gather.auto.keys ∙ c.with_own.auto.keys ∙ o.key_long;
-      exact = within.1;
-    }
+below_room : {t : ℕ} → (c : In_ok-gather t) → Room c.gather.new.t
+below_room c = subst (λ (r : Option (Unit {0})). Within r c.gather.new.t) c.in_ok-gather.was c.gather.ensures.1.0
 
 pub returns-then-d-m-gt16 : goal.returns-then-d-m-gt16
 returns-then-d-m-gt16 t c =
     let w = (goal.at.returns-then-d-m-gt16 t c).In-loop-p in
     let x = c.args in
     let l = c.loop-p in (
-      gather_deep (pool_in x.s.now) l.rest l.at (take x.d x.path.now) (rows_from (columns l.rows l.vals l.keys) 0 l.k) (on w) x.d c.label_len-m.result (long w) (sized w) c.label_len-m.ensures.0 c.if-d-m-gt16.true
+      gather_deep (pool_in x.s.now) l.rest l.at (take x.d x.path.now) (tabled l.t) (on w) x.d c.label_len-m.result (long w) (sized w) c.label_len-m.ensures.0 c.if-d-m-gt16.true
           ∙ l.invariant.1.1.1.1,
       (tt, l.invariant.1.1.1.0),
     )
 
-pub returns-in_default : goal.returns-in_default
-returns-in_default t c =
-    let w = (goal.at.returns-in_default t c).In-loop-p in
-    let e = (goal.at.returns-in_default t c).After-extend in
+pub returns-in_err-with_own : goal.returns-in_err-with_own
+returns-in_err-with_own t c =
+    let w = (goal.at.returns-in_err-with_own t c).In-loop-p in
+    let e = (goal.at.returns-in_err-with_own t c).After-extend in
     let x = c.args in
     let l = c.loop-p in
-    let u = columns c.with_own.new.rows c.with_own.new.vals c.with_own.new.keys in (
-      gather_full (pool_in x.s.now) l.rest l.at (take x.d x.path.now) (rows_from (columns l.rows l.vals l.keys) 0 l.k) (on w) x.d c.label_len-m.result (long w) (sized w) c.label_len-m.ensures.0 c.if-d-m-gt16.false (take (x.d + c.label_len-m.result) c.extend.new.path) (here e) (rows_of c.with_own.result u) c.with_own.ensures.0 (ap (λ (r : Gathered). rows_of r u) c.in_default.is)
+    let u = c.with_own.new.t in
+    rw c.from_residual.ensures (
+      gather_full (pool_in x.s.now) l.rest l.at (take x.d x.path.now) (tabled l.t) (on w) x.d c.label_len-m.result (long w) (sized w) c.label_len-m.ensures.0 c.if-d-m-gt16.false (take (x.d + c.label_len-m.result) c.extend.new.path) (here e) (rows_of c.with_own.result u) (own_is (goal.at.returns-in_err-with_own t c).After-with_own) (ap (λ (r : Option (Unit {0})). rows_of r u) c.in_err-with_own.was)
           ∙ l.invariant.1.1.1.1,
       (tt, c.extend.ensures.0 ∙ l.invariant.1.1.1.0),
     )
 
-pub returns-in_default-gather : goal.returns-in_default-gather
-returns-in_default-gather t c =
-    let w = (goal.at.returns-in_default-gather t c).In-loop-p in
-    let e = (goal.at.returns-in_default-gather t c).After-extend in
+pub returns-in_err-gather : goal.returns-in_err-gather
+returns-in_err-gather t c =
+    let w = (goal.at.returns-in_err-gather t c).In-loop-p in
+    let e = (goal.at.returns-in_err-gather t c).After-extend in
     let x = c.args in
     let l = c.loop-p in
-    let u = columns c.with_own.new.rows c.with_own.new.vals c.with_own.new.keys in
-    let v = columns c.gather.new.rows c.gather.new.vals c.gather.new.keys in (
-      gather_below (pool_in x.s.now) l.rest l.at (take x.d x.path.now) (rows_from (columns l.rows l.vals l.keys) 0 l.k) (on w) x.d c.label_len-m.result (long w) (sized w) c.label_len-m.ensures.0 c.if-d-m-gt16.false (take (x.d + c.label_len-m.result) c.extend.new.path) (here e) (rows_of c.with_own.result u) c.with_own.ensures.0 (rows_from u 0 c.in-Rows.e) (ap (λ (r : Gathered). rows_of r u) c.in-Rows.is) c.child_at-below.result c.child_at-below.ensures.0 (rows_of c.gather.result v) c.gather.ensures.0 (ap (λ (r : Gathered). rows_of r v) c.in_default-gather.is)
+    let u = c.with_own.new.t in
+    let v = c.gather.new.t in
+    rw c.from_residual-in_err-gather.ensures (
+      gather_below (pool_in x.s.now) l.rest l.at (take x.d x.path.now) (tabled l.t) (on w) x.d c.label_len-m.result (long w) (sized w) c.label_len-m.ensures.0 c.if-d-m-gt16.false (take (x.d + c.label_len-m.result) c.extend.new.path) (here e) (rows_of c.with_own.result u) (own_is (goal.at.returns-in_err-gather t c).After-with_own) (tabled u) (ap (λ (r : Option (Unit {0})). rows_of r u) c.in_ok-with_own.was) c.child_at-below.result c.child_at-below.ensures.0 (rows_of c.gather.result v) c.gather.ensures.0 (ap (λ (r : Option (Unit {0})). rows_of r v) c.in_err-gather.was)
           ∙ l.invariant.1.1.1.1,
       (tt, take_less x.d c.label_len-m.result _ _ c.gather.ensures.1.1 ∙ c.extend.ensures.0 ∙ l.invariant.1.1.1.0),
     )
 
-pub loop-p-preserved-then-below-ne0 : goal.loop-p-preserved-then-below-ne0
-loop-p-preserved-then-below-ne0 t c =
-    let w = (goal.at.loop-p-preserved-then-below-ne0 t c).In-loop-p in
-    let e = (goal.at.loop-p-preserved-then-below-ne0 t c).After-extend in
+pub loop-p-preserved-in-Continue-branch-2 : goal.loop-p-preserved-in-Continue-branch-2
+loop-p-preserved-in-Continue-branch-2 t c =
+    let w = (goal.at.loop-p-preserved-in-Continue-branch-2 t c).In-loop-p in
+    let e = (goal.at.loop-p-preserved-in-Continue-branch-2 t c).After-extend in
     let x = c.args in
     let l = c.loop-p in
-    let u = columns c.with_own.new.rows c.with_own.new.vals c.with_own.new.keys in
-    let v = columns c.gather.new.rows c.gather.new.vals c.gather.new.keys in (
-      below_room (goal.at.loop-p-preserved-then-below-ne0 t c).In-Rows-gather,
+    let u = c.with_own.new.t in
+    let v = c.gather.new.t in (
+      below_room (goal.at.loop-p-preserved-in-Continue-branch-2 t c).In_ok-gather,
       (
         omega arith,
         (
           c.gather.auto.path ∙ c.extend.auto.path ∙ l.invariant.1.1.0,
           (
             take_less x.d c.label_len-m.result _ _ c.gather.ensures.1.1 ∙ c.extend.ensures.0 ∙ l.invariant.1.1.1.0,
-            gather_later (pool_in x.s.now) l.rest l.at (take x.d x.path.now) (rows_from (columns l.rows l.vals l.keys) 0 l.k) (on w) x.d c.label_len-m.result (long w) (sized w) c.label_len-m.ensures.0 c.if-d-m-gt16.false (take (x.d + c.label_len-m.result) c.extend.new.path) (here e) (rows_of c.with_own.result u) c.with_own.ensures.0 (rows_from u 0 c.in-Rows.e) (ap (λ (r : Gathered). rows_of r u) c.in-Rows.is) c.child_at-below.result c.child_at-below.ensures.0 (rows_of c.gather.result v) c.gather.ensures.0 (rows_from v 0 c.in-Rows-gather.f) (ap (λ (r : Gathered). rows_of r v) c.in-Rows-gather.is) c.next_at-at.result c.next_at-at.ensures.0
+            gather_later (pool_in x.s.now) l.rest l.at (take x.d x.path.now) (tabled l.t) (on w) x.d c.label_len-m.result (long w) (sized w) c.label_len-m.ensures.0 c.if-d-m-gt16.false (take (x.d + c.label_len-m.result) c.extend.new.path) (here e) (rows_of c.with_own.result u) (own_is (goal.at.loop-p-preserved-in-Continue-branch-2 t c).After-with_own) (tabled u) (ap (λ (r : Option (Unit {0})). rows_of r u) c.in_ok-with_own.was) c.child_at-below.result c.child_at-below.ensures.0 (rows_of c.gather.result v) c.gather.ensures.0 (tabled v) (ap (λ (r : Option (Unit {0})). rows_of r v) c.in_ok-gather.was) c.next_at-at.result c.next_at-at.ensures.0
                 ∙ l.invariant.1.1.1.1,
           ),
         ),
@@ -134,15 +122,15 @@ loop-p-preserved t c =
     let e = (goal.at.loop-p-preserved t c).After-extend in
     let x = c.args in
     let l = c.loop-p in
-    let u = columns c.with_own.new.rows c.with_own.new.vals c.with_own.new.keys in (
-      own_room (goal.at.loop-p-preserved t c).In-Rows,
+    let u = c.with_own.new.t in (
+      own_room (goal.at.loop-p-preserved t c).In_ok-with_own,
       (
         omega arith,
         (
           c.extend.auto.path ∙ l.invariant.1.1.0,
           (
             c.extend.ensures.0 ∙ l.invariant.1.1.1.0,
-            gather_later (pool_in x.s.now) l.rest l.at (take x.d x.path.now) (rows_from (columns l.rows l.vals l.keys) 0 l.k) (on w) x.d c.label_len-m.result (long w) (sized w) c.label_len-m.ensures.0 c.if-d-m-gt16.false (take (x.d + c.label_len-m.result) c.extend.new.path) (here e) (rows_of c.with_own.result u) c.with_own.ensures.0 (rows_from u 0 c.in-Rows.e) (ap (λ (r : Gathered). rows_of r u) c.in-Rows.is) c.child_at-below.result c.child_at-below.ensures.0 (some (rows_from u 0 c.in-Rows.e)) (gather_nil (pool_in x.s.now) (l.rest - 1) c.child_at-below.result _ _ (leads_none (l.rest - 1) c.child_at-below.result c.if-below-ne0.false)) (rows_from u 0 c.in-Rows.e) refl c.next_at-at.result c.next_at-at.ensures.0
+            gather_later (pool_in x.s.now) l.rest l.at (take x.d x.path.now) (tabled l.t) (on w) x.d c.label_len-m.result (long w) (sized w) c.label_len-m.ensures.0 c.if-d-m-gt16.false (take (x.d + c.label_len-m.result) c.extend.new.path) (here e) (rows_of c.with_own.result u) (own_is (goal.at.loop-p-preserved t c).After-with_own) (tabled u) (ap (λ (r : Option (Unit {0})). rows_of r u) c.in_ok-with_own.was) c.child_at-below.result c.child_at-below.ensures.0 (Some (tabled u)) (gather_nil (pool_in x.s.now) (l.rest - 1) c.child_at-below.result _ _ (leads_none (l.rest - 1) c.child_at-below.result c.if-below-ne0.false)) (tabled u) refl c.next_at-at.result c.next_at-at.ensures.0
                 ∙ l.invariant.1.1.1.1,
           ),
         ),
@@ -153,7 +141,7 @@ pub gather-requires : goal.gather-requires
 gather-requires t c =
     let w = (goal.at.gather-requires t c).In-loop-p in (
       omega (arith, up w, c.loop-p.invariant.1.0, c.decreases),
-      (own_room (goal.at.gather-requires t c).In-Rows, (c.requires.1.0, (c.if-d-m-gt16.false, path_long (goal.at.gather-requires t c).After-extend))),
+      (own_room (goal.at.gather-requires t c).In_ok-with_own, (c.requires.1.0, (c.if-d-m-gt16.false, path_long (goal.at.gather-requires t c).After-extend))),
     )
 
 pub returns : goal.returns
@@ -161,5 +149,5 @@ returns t c =
     let x = c.args in
     let l = c.loop-p in (
       gather_nil (pool_in x.s.now) l.rest l.at _ _ (sym c.leads.ensures ∙ c.loop-p-test.false) ∙ l.invariant.1.1.1.1,
-      ((l.invariant.0.rows, l.invariant.0.exact), l.invariant.1.1.1.0),
+      (l.invariant.0, l.invariant.1.1.1.0),
     )

@@ -2,7 +2,7 @@
 use mathlib.Core.Path.{◌≡◌}
 use Prim.Native.Nat.{◌≤◌}
 use lib.ListN.{length, take}
-use Rattle.keys.specs.Table.{columns, rows_from}
+use Rattle.keys.specs.Table.{tabled}
 use Rattle.radix.specs.Answer.{Room}
 use Rattle.radix.specs.Gathering.{gathered}
 use Rattle.radix.specs.Record.{tree_at}
@@ -14,11 +14,11 @@ decreases-gather l = l.left
 
 abbrev pub invariant-loop-p : goal.invariant-loop-p
 invariant-loop-p l =
-    Room l.k l.rows l.vals l.keys
+    Room l.t
     × ((l.rest ≤ l.left)
     × ((length l.path ≡ length l.initial.path)
     × ((take l.d l.path ≡ take l.d l.initial.path)
-    × (gathered (take l.d l.initial.path) (tree_at l.rest (pool_in l.s) l.at) (rows_from (columns l.rows l.vals l.keys) 0 l.k) ≡ gathered (take l.d l.initial.path) (tree_at l.left (pool_in l.s) l.link) (rows_from (columns l.initial.rows l.initial.vals l.initial.keys) 0 l.n)))))
+    × (gathered (take l.d l.initial.path) (tree_at l.rest (pool_in l.s) l.at) (tabled l.t) ≡ gathered (take l.d l.initial.path) (tree_at l.left (pool_in l.s) l.link) (tabled l.initial.t)))))
 
 abbrev pub decreases-loop-p : goal.decreases-loop-p
 decreases-loop-p l = l.rest

@@ -3,12 +3,14 @@ use mathlib.Core.List.{List, ◌++◌}
 use mathlib.Core.Path.{◌≡◌, refl, sym, ap, ◌∙◌}
 use Prim.Native.Nat.{ℕ, ◌-◌, ◌≤◌, ◌<◌}
 use native.Mathlib.Omega.{arith}
+use Rattle.std.proofs.Common.{option_map}
 use lib.ListN.{length, take}
 use Rattle.radix.specs.Record.{leads_on, tree_at}
 use Rattle.radix_bytes.specs.Bytes.{pool_in}
 use Rattle.radix_bytes.proofs.Laws.{label_in}
 use Rattle.radix.specs.Walk.{greatest_in}
-use Rattle.radix_walk.specs.Neighbours.{near_of, cut_key, alone, greatest_from}
+use Rattle.keys.specs.Answer.{near_of}
+use Rattle.radix_walk.specs.Neighbours.{cut_key, alone, greatest_from}
 use Rattle.radix.proofs.Laws.{leads_to}
 use Rattle.radix_walk.proofs.Paths.{Down, greatest_own, greatest_below, greatest_start, greatest_end}
 use Rattle.radix_walk.proofs.near.greatest.Goals as goal
@@ -71,7 +73,7 @@ own_entry-requires c = (c.requires.0, (omega (arith, up (goal.at.own_entry-requi
 pub returns-then-not-leads : goal.returns-then-not-leads
 returns-then-not-leads c =
     c.own_entry.ensures
-    ∙ ap near_of (greatest_own (down (goal.at.returns-then-not-leads c).After-laid-n-in-loop-path) c.child_at-below.result c.child_at-below.ensures.0 (sym c.leads-in-loop-path.ensures ∙ c.if-not-leads.true) ∙ whole (goal.at.returns-then-not-leads c).At-loop-path)
+    ∙ ap (option_map near_of) (greatest_own (down (goal.at.returns-then-not-leads c).After-laid-n-in-loop-path) c.child_at-below.result c.child_at-below.ensures.0 (sym c.leads-in-loop-path.ensures ∙ c.if-not-leads.true) ∙ whole (goal.at.returns-then-not-leads c).At-loop-path)
 
 pub overflow_sub-left-in-loop-path : goal.overflow_sub-left-in-loop-path
 overflow_sub-left-in-loop-path c = omega (arith, up (goal.at.overflow_sub-left-in-loop-path c).In-loop-path)
@@ -91,4 +93,4 @@ loop-path-preserved c = (
 pub returns : goal.returns
 returns c =
     let l = c.loop-path in
-    c.nothing.ensures ∙ ap near_of (greatest_end (pool_in c.args.s.now) (take l.n l.path) l.left l.at (sym c.leads.ensures ∙ c.loop-path-test.false) ∙ whole (goal.at.returns c).At-loop-path)
+    ap (option_map near_of) (greatest_end (pool_in c.args.s.now) (take l.n l.path) l.left l.at (sym c.leads.ensures ∙ c.loop-path-test.false) ∙ whole (goal.at.returns c).At-loop-path)

@@ -3,12 +3,14 @@ use mathlib.Core.Path.{◌≡◌, refl, sym, ap, ◌∙◌}
 use mathlib.Core.List.{List, ◌++◌}
 use Prim.Native.Nat.{ℕ, ◌-◌, ◌≤◌, ◌<◌}
 use native.Mathlib.Omega.{arith}
+use Rattle.std.proofs.Common.{option_map, Some}
 use lib.ListN.{length, take}
 use Rattle.radix.specs.Record.{leads_on, tree_at}
 use Rattle.radix_bytes.specs.Bytes.{pool_in}
 use Rattle.radix_bytes.proofs.Laws.{label_in}
 use Rattle.radix.specs.Walk.{least_in}
-use Rattle.radix_walk.specs.Neighbours.{near_of, cut_key, least_from}
+use Rattle.keys.specs.Answer.{near_of}
+use Rattle.radix_walk.specs.Neighbours.{cut_key, least_from}
 use Rattle.radix.proofs.Laws.{leads_to}
 use Rattle.radix_walk.proofs.Paths.{Down, least_own, least_below, least_start, least_end}
 use Rattle.radix_walk.proofs.near.least.Goals as goal
@@ -70,8 +72,8 @@ entry_of-requires c = (long (goal.at.entry_of-requires c).After-laid-n-in-loop-p
 
 pub returns-then-key_at-ne0 : goal.returns-then-key_at-ne0
 returns-then-key_at-ne0 c =
-    c.entry_of.ensures
-    ∙ ap near_of (least_own (down (goal.at.returns-then-key_at-ne0 c).After-laid-n-in-loop-path) c.value_at.result (λ z. c.if-key_at-ne0.true (c.key_at.ensures.0 ∙ z)) c.value_at.ensures.0 ∙ whole (goal.at.returns-then-key_at-ne0 c).At-loop-path)
+    ap Some c.entry_of.ensures
+    ∙ ap (option_map near_of) (least_own (down (goal.at.returns-then-key_at-ne0 c).After-laid-n-in-loop-path) c.value_at.result (λ z. c.if-key_at-ne0.true (c.key_at.ensures.0 ∙ z)) c.value_at.ensures.0 ∙ whole (goal.at.returns-then-key_at-ne0 c).At-loop-path)
 
 pub child_at-at-requires : goal.child_at-at-requires
 child_at-at-requires c = (c.requires.0, omega (arith, up (goal.at.child_at-at-requires c).In-loop-path))
@@ -88,4 +90,4 @@ loop-path-preserved c = (long (goal.at.loop-path-preserved c).After-laid-n-in-lo
 pub returns : goal.returns
 returns c =
     let l = c.loop-path in
-    c.nothing.ensures ∙ ap near_of (least_end (pool_in c.args.s.now) (take l.n l.path) l.left l.at (sym c.leads.ensures ∙ c.loop-path-test.false) ∙ whole (goal.at.returns c).At-loop-path)
+    ap (option_map near_of) (least_end (pool_in c.args.s.now) (take l.n l.path) l.left l.at (sym c.leads.ensures ∙ c.loop-path-test.false) ∙ whole (goal.at.returns c).At-loop-path)

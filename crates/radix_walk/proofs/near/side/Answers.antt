@@ -11,9 +11,9 @@ use Rattle.radix_walk.proofs.near.side.Goals as goal
 pub returns : goal.returns
 returns c =
     let x = c.args in
-    let m = c.lesser-m.result in
+    let m = c.min-m.result in
     let e : x.at + x.n - x.at ≡ x.n = omega arith in
     let f : x.i + m - x.i ≡ m = omega arith in
     c.compare.ensures
     ∙ ap₂ order_of (ap (λ (j : ℕ). take j (drop x.at x.s.now)) e ∙ part_area x.at x.n x.s.now)
-    (ap (λ (j : ℕ). take j (drop x.i x.k.now)) (f ∙ c.lesser-m.ensures) ∙ part_short x.i x.n x.k.now)
+    (ap (λ (j : ℕ). take j (drop x.i x.k.now)) (f ∙ c.min-m.ensures) ∙ part_short x.i x.n x.k.now)

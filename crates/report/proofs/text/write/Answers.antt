@@ -4,7 +4,7 @@ use Rattle.report.proofs.Lines.{then_lines, no_lines, told_lines}
 use Rattle.report.proofs.text.write.Goals as goal
 
 pub returns-in-Refused : goal.returns-in-Refused
-returns-in-Refused c = told_lines c.in-Refused.is c.number.ensures
+returns-in-Refused c = told_lines c.in-Refused.is (rw (← c.number.ensures) c.number-in-Refused.ensures)
 
 pub returns-in-Reported : goal.returns-in-Reported
 returns-in-Reported c = told_lines c.in-Reported.is (then_lines (omega arith) c.counts-at.ensures c.extremes.ensures)

@@ -1,23 +1,24 @@
 -- Assumes nothing.
-use mathlib.Core.Path.{sym}
+use mathlib.Core.Path.{refl}
+use Prim.Native.Nat.{◌+◌}
 use native.Mathlib.Omega.{arith}
-use Rattle.resp_read.proofs.Parts.{length_at, bulk_none, bulk_short, bulk_no_end, bulk_there}
+use Rattle.resp_read.proofs.Parts.{length_at, end_short, bulk_step}
 use Rattle.resp_read.proofs.part.bulk.Goals as goal
 
-pub returns-then-n-eq0 : goal.returns-then-n-eq0
-returns-then-n-eq0 c = sym (bulk_none _ _ _ c.length_head-n.ensures (omega arith))
+pub returns-in_err-n : goal.returns-in_err-n
+returns-in_err-n c = rw (c.from_residual.ensures, bulk_step c.args.s.now c.args.at, ← c.in_err-n.ensures) refl
 
 pub overflow_sub-s : goal.overflow_sub-s
-overflow_sub-s c = omega (arith, (length_at _ _ _ c.length_head-n.ensures (omega arith)).0.within)
+overflow_sub-s c = omega (arith, (length_at _ _ _ c.in_ok-n.ensures).0.within)
 
 pub returns-then-s-n : goal.returns-then-s-n
-returns-then-s-n c = sym (bulk_short _ _ _ c.length_head-n.ensures (omega arith) (omega arith))
+returns-then-s-n c = rw (bulk_step c.args.s.now c.args.at, ← c.in_ok-n.ensures, end_short c.args.s.now (c.in_ok-n.n.next + c.in_ok-n.n.value) (omega arith)) refl
 
-pub returns-then-line_end-eq0 : goal.returns-then-line_end-eq0
-returns-then-line_end-eq0 c = sym (bulk_no_end _ _ _ c.length_head-n.ensures (omega arith) _ c.line_end.ensures (omega arith))
+pub overflow_add-n : goal.overflow_add-n
+overflow_add-n c = omega (arith, (length_at _ _ _ c.in_ok-n.ensures).1)
 
-pub overflow_add-result : goal.overflow_add-result
-overflow_add-result c = omega (arith, (length_at _ _ _ c.length_head-n.ensures (omega arith)).1)
+pub returns-in_err-line_end : goal.returns-in_err-line_end
+returns-in_err-line_end c = rw (c.from_residual-in_err-line_end.ensures, bulk_step c.args.s.now c.args.at, ← c.in_ok-n.ensures, ← c.in_err-line_end.ensures) refl
 
 pub returns : goal.returns
-returns c = sym (bulk_there _ _ _ c.length_head-n.ensures (omega arith) _ c.line_end.ensures (omega arith))
+returns c = rw (bulk_step c.args.s.now c.args.at, ← c.in_ok-n.ensures, ← c.in_ok-line_end.ensures) refl

@@ -1,5 +1,5 @@
 use mathlib.Core.Path.{◌≡◌, refl, sym, ap, ◌∙◌}
-use Prim.Native.Nat.{◌<◌}
+use Prim.Native.Nat.{ℕ, ◌<◌}
 use native.Mathlib.Omega.{arith}
 use lib.ListN.{length, length-set}
 use Rattle.group_area.specs.Answer.{groups_in}
@@ -47,4 +47,5 @@ pub returns : goal.returns
 returns c =
     let s = c.args.area.now in
     let l = c.loop-n in
-    sizes_given (groups_in s) l.n l.size l.invariant.0 (omega (arith, few_groups s c.requires)) l.invariant.2
+    ap (λ (k : ℕ). record { n = k; size = l.size }) (let e : 8 ≡ l.n = omega arith in e)
+    ∙ sizes_given (groups_in s) l.n l.size l.invariant.0 (omega (arith, few_groups s c.requires)) l.invariant.2

@@ -56,9 +56,6 @@ write_body-to-requires c =
     let w = next (goal.at.write_body-to-requires c).In-loop-k in
     (part_sound s c.requires.0 l.k w.within, omega (arith, ap length (part_body s l.k), w.sum, l.invariant.1, l.invariant.2, c.requires.2))
 
-pub overflow_add-k : goal.overflow_add-k
-overflow_add-k c = omega (arith, (next (goal.at.overflow_add-k c).In-loop-k).few)
-
 pub loop-k-preserved : goal.loop-k-preserved
 loop-k-preserved c =
     let x = c.args in
