@@ -2,16 +2,12 @@ use mathlib.Core.Path.{◌≡◌, refl, sym, ap₂, ◌∙◌}
 use mathlib.Core.List.{List}
 use Prim.Native.Nat.{ℕ, ◌+◌, ◌-◌, ◌≤◌}
 use native.Mathlib.Omega.{arith}
-use lib.ListN.{length, take, drop, get_or}
-use Rattle.octets.specs.Place.{area}
+use lib.ListN.{length, get_or}
+use Rattle.octets.proofs.Laws.{part_area}
 use Rattle.group_body.specs.Answer.{names_end}
 use Rattle.group_body.proofs.Tested.{ends, names_bad, names_next, names_done}
 use Rattle.group_body.proofs.checking.names_end.Goals as goal
 use Rattle.group_body.proofs.checking.names_end.Goals.{In_ok-end}
-
-part : (from n : ℕ) (s : List ℕ) → take n (drop from s) ≡ area from n s
-unfolding area
-part from n s = refl
 
 -- the name ends after its length, and within the bytes
 end : (c : In_ok-end) → let l = c.loop in c.in_ok-end.end ≡ l.i + 1 + get_or c.args.s.now l.i 0
@@ -49,7 +45,7 @@ loop-preserved c =
     let b : ℕ = c.in_ok-end.end in
     let e : n - (l.counter + 1) ≡ n - l.counter - 1 = omega arith in (
       within (goal.at.loop-preserved c).In_ok-end,
-      ap₂ (λ (a : List ℕ) (m : ℕ). names_end a b m s) (part (l.i + 1) (b - (l.i + 1)) s) e
+      ap₂ (λ (a : List ℕ) (m : ℕ). names_end a b m s) (part_area (l.i + 1) (b - (l.i + 1)) s) e
           ∙ sym (names_next l.above.now l.i s (n - l.counter) (omega arith) b (sym c.name_end.ensures.0 ∙ c.in_ok-end.was)) ∙ l.invariant.1,
     )
 
