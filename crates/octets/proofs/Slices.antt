@@ -1,5 +1,5 @@
 -- What the library's methods on slices answer, in our terms. Assumes nothing.
-use Rattle.std.proofs.Common.{◌≡◌, refl, sym, ap, ◌∙◌, Bool, true, false, ◌&&◌, eqb, List, [], ◌∷◌, ◌++◌, ℕ, ◌+◌, ◌-◌, ◌≤◌, length, take, drop, replicate, length-take-le, length-drop, arith}
+use Rattle.std.proofs.Common.{◌≡◌, refl, sym, ap, ◌∙◌, Bool, true, false, ◌&&◌, eqb, List, [], ◌∷◌, ◌++◌, ℕ, ◌+◌, ◌-◌, ◌≤◌, length, take, drop, replicate, get_or, length-take-le, length-drop, arith}
 use lib.Pointwise.{pointwise}
 use Rattle.std.proofs.lemmas.List.{drop-drop}
 use Rattle.std.specs.Cmp.{nat_cmp_is}
@@ -36,6 +36,17 @@ order_is [] [] = refl
 order_is [] (y ∷ b) = refl
 order_is (x ∷ a) [] = refl
 order_is (x ∷ a) (y ∷ b) = first_is x y (slice_cmp nat_cmp a b) ∙ ap (first x y) (order_is a b)
+
+-- `cmp` of the first bytes, where they differ
+pub differ : (a b : List ℕ) → 1 ≤ length a → 1 ≤ length b → (get_or a 0 0 ≡ get_or b 0 0 → ⊥) → nat_cmp (get_or a 0 0) (get_or b 0 0) ≡ order_of a b
+unfolding order_of
+differ [] b h k n = absurd (let z : ◌≡◌ {A = ℕ} 0 1 = omega arith in omega arith)
+differ (x ∷ a) [] h k n = absurd (let z : ◌≡◌ {A = ℕ} 0 1 = omega arith in omega arith)
+differ (x ∷ a) (y ∷ b) h k n =
+    by_order x y
+    (λ h. sym (nat_cmp_is x y Less h) ∙ sym (first_less x y (order_of a b) h))
+    (λ h. sym (nat_cmp_is x y Greater h) ∙ sym (first_greater x y (order_of a b) h))
+    (λ h. absurd (n h))
 
 pub less_is : (o : Ordering) → is_lt o ≡ is_less o
 less_is Less = refl

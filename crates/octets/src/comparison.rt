@@ -54,9 +54,12 @@ pub fn equal(a: &[u8], b: &[u8]) -> bool
     a == b
 }
 
-// Bytewise, a prefix first.
+// Bytewise, a prefix first. Most keys and names differ in the first byte, and asking std costs more than that byte.
 pub fn compare(a: &[u8], b: &[u8]) -> Ordering
     ensures { result ≡ order_of a.now b.now }
 {
+    if 0 < a.len() && 0 < b.len() && a[0] != b[0] {
+        return a[0].cmp(&b[0]);
+    }
     a.cmp(b)
 }

@@ -1,1 +1,3 @@
+-- Laws is what callers cite; Examples the table, computed.
 pub mod Laws
+pub mod Examples

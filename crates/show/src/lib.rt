@@ -5,16 +5,19 @@
 use std::io;
 use std::io::Write;
 
+// By hand, since `{b:02X}` makes two writes of a byte below 16, and takes twice the time (docs/DESIGN-PASS.md).
+const DIGITS: [u8; 16] = *b"0123456789ABCDEF";
+
 // A label or a separator, as it is.
 pub fn text<W: Write>(out: &mut W, s: &[u8]) -> io::Result<()> {
     out.write_all(s)
 }
 
-// Two digits a byte, each after the separator.
+// Two digits a byte, in one write, each after the separator.
 pub fn hex<W: Write>(out: &mut W, s: &[u8], separator: &[u8]) -> io::Result<()> {
     for &b in s {
         text(out, separator)?;
-        write!(out, "{b:02X}")?;
+        out.write_all(&[DIGITS[usize::from(b / 16)], DIGITS[usize::from(b % 16)]])?;
     }
     Ok(())
 }
