@@ -4,6 +4,7 @@ ghost use Rattle.std.specs.Prelude.{◌≡◌, ◌+◌, ◌≤◌, length};
 ghost use Rattle.octets.specs.Bytes.{zeros};
 ghost use Rattle.octets.specs.Place.{area, put, spliced, spliced_end};
 
+// By hand: std's copy_from_slice is a call of memmove, which not every archive needs from outside (docs/DESIGN-PASS.md).
 pub fn copy_in(d: &mut [u8], at: usize, s: &[u8])
     requires { at + length s.now ≤ length d.old }
     ensures { d.new ≡ put d.old at s.now }

@@ -5,7 +5,7 @@
 use std::io;
 use std::io::Write;
 
-// By hand, since `{b:02X}` makes two writes of a byte below 16, and takes twice the time (docs/DESIGN-PASS.md).
+// By hand, since `{b:02X}` makes two writes of a byte below 16, and takes 1.25 to 2.4 times the time (docs/DESIGN-PASS.md).
 const DIGITS: [u8; 16] = *b"0123456789ABCDEF";
 
 // A label or a separator, as it is.
